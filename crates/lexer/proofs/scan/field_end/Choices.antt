@@ -1,0 +1,12 @@
+use Prim.Native.Nat.{ℕ, _-_, _≤_, _<_}
+use mathlib.Core.Path.{_≡_}
+use mathlib.Core.Bool.{true}
+use lib.ListN.{length, getD}
+use Rattle.lexer.specs.Characters.{fieldByte}
+use Rattle.lexer.proofs.scan.field_end.Given as given
+
+abbrev pub Inv-loop-at : given.InvT-loop-at
+Inv-loop-at l = (l .from ≤ l .at) × (l .from < l .at → l .at ≤ length (l .text)) × ((k : ℕ) → l .from ≤ k → k < l .at → fieldByte (getD (l .text) k 0) ≡ true)
+
+abbrev pub μ-loop-at : given.MeasureT-loop-at
+μ-loop-at l = length (l .text) - l .at
