@@ -2,11 +2,17 @@
 ghost use Prim.Native.Nat.{_≤_};
 ghost use lib.ListN.{length};
 ghost use Rattle.std.specs.Results.{Cases};
+use reader::Refusal;
+use reader::read;
+use rule::Record;
 use std::io;
 use std::io::Read;
 
 /// One byte more than a text may have: what lies beyond cannot matter.
 const MOST: usize = 8193;
+
+/// Eight buffers and 96 instructions.
+const MOST_RECORDS: usize = 104;
 
 /// Fills the buffer from standard input, as far as that goes, and says how far.
 fn fill(rt: &LibcRuntime, buffer: &mut [u8]) -> io::Result<usize>
@@ -28,5 +34,16 @@ fn fill(rt: &LibcRuntime, buffer: &mut [u8]) -> io::Result<usize>
 fn main(rt: LibcRuntime) -> io::Result<()> {
     let mut buffer = [0u8; MOST];
     let len = fill(&rt, &mut buffer)?;
-    println!(rt, "{len} bytes")
+    let mut table = [Record::BLANK; MOST_RECORDS];
+    match read(&buffer[..len], &mut table) {
+        Ok(shape) => {
+            let buffers = shape.buffers;
+            let instructions = shape.instructions;
+            println!(rt, "buffers instructions\n{buffers} {instructions}")
+        }
+        Err(fault) => {
+            let Refusal { number, line, place, layer } = fault.refusal();
+            println!(rt, "number line place layer\n{number} {line} {place} {layer}")
+        }
+    }
 }

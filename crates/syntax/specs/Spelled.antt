@@ -1,8 +1,10 @@
 -- What the code has of a line, with each name as the field that it is.
 use mathlib.Core.Path.{_≡_}
+use mathlib.Core.Bool.{true}
 use Rattle.std.specs.declared.result.Result.{Result}
 use Rattle.std.specs.declared.result.Result.the-variants.{Ok, Err}
 use Rattle.lexer.specs.declared.field.Name.{Name}
+use Rattle.lexer.specs.Characters.{isName}
 use Rattle.lexer.specs.Fields.{spelled, unmarked}
 use Rattle.lexer.specs.Lines.{Piece}
 use Rattle.syntax.specs.declared.fault.LineFault.{LineFault}
@@ -36,7 +38,7 @@ said f (Err e) = Err e
 
 -- a label's name is its field without the colon, and a buffer's is the whole of its first field
 abbrev pub LabelFrom : Piece → Result (Statement Name) LineFault → Type 0
-LabelFrom p (Ok (Label n)) = spelled n ≡ unmarked p
+LabelFrom p (Ok (Label n)) = (spelled n ≡ unmarked p) × (isName (n .text .now) ≡ true)
 LabelFrom p (Ok (Instructs i)) = Unit {0}
 LabelFrom p (Err e) = Unit {0}
 
