@@ -20,8 +20,9 @@ use Rattle.syntax.specs.declared.statement.Header.{Header}
 use Rattle.syntax.specs.declared.statement.Header.the-variants.{Buffer}
 use Rattle.syntax.specs.Statements.{headerOf}
 use Rattle.reader.specs.declared.mark.Mark.{Mark}
-use Rattle.reader.specs.Names.{Entry, entryOf, entriesOf, isKnown}
-use Rattle.reader.specs.Reading.{Fields, firstPlace, entry, recordAt, headed, buffersFrom}
+use Rattle.grammar.specs.Names.{Entry, isKnown}
+use Rattle.reader.specs.Marked.{entryOf, entriesOf}
+use Rattle.grammar.specs.Reading.{Fields, firstPlace, entry, recordAt, headed, buffersFrom}
 use Rattle.reader.proofs.Marks.{entries-more}
 
 buffers-more : (room : ℕ) (ns : List Entry) (rs : List Record) (l : Fields) (rest : List Fields) (n : Piece) (size : ℕ) (mode : Mode) → Ok (Buffer n size mode) ≡ headerOf (firstPlace l) l → isKnown ns (n .bytes) ≡ false → length rs < room → buffersFrom room ns rs (l ∷ rest) ≡ buffersFrom room (ns ++ entry n (length rs) ∷ []) (rs ++ recordAt (firstPlace l) (IsBuffer size mode) ∷ []) rest

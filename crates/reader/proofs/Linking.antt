@@ -14,10 +14,10 @@ use Rattle.syntax.specs.declared.fault.LineFault.{LineFault}
 use Rattle.syntax.specs.declared.statement.Instruction.{Instruction}
 use Rattle.syntax.specs.declared.statement.Statement.{Statement}
 use Rattle.syntax.specs.declared.statement.Statement.the-variants.{Instruction as Instructs}
-use Rattle.reader.specs.declared.fault.ProgramFault.{ProgramFault}
-use Rattle.reader.specs.Links.{Scope, itemOf}
+use Rattle.grammar.specs.declared.fault.ProgramFault.{ProgramFault}
+use Rattle.grammar.specs.Links.{Scope, itemOf}
 use Rattle.reader.specs.Passes.{instructing, instructionsIn}
-use Rattle.reader.specs.Reading.{Fields, firstPlace, recordAt, said, andThen, linked, linkFrom}
+use Rattle.grammar.specs.Reading.{Fields, firstPlace, recordAt, said, andThen, linked, linkFrom}
 
 link-more : (s : Scope) (rs : List Record) (l : Fields) (rest : List Fields) (i : Instruction Piece) (item : Item) → Ok (Instructs i) ≡ said l → Ok item ≡ itemOf s (length rs) i → linkFrom s (rs ++ recordAt (firstPlace l) item ∷ []) rest ≡ linkFrom s rs (l ∷ rest)
 link-more s rs l rest i item says made =

@@ -8,7 +8,8 @@ use Rattle.std.proofs.shelf.Lists.{at-drop-more, at-drop-all}
 use Rattle.std.specs.shelf.Text.{sameBytes}
 use Rattle.std.specs.declared.option.Option.the-variants.{Some, None}
 use Rattle.reader.specs.declared.mark.Mark.{Mark}
-use Rattle.reader.specs.Names.{Entry, entryOf, entriesOf, numberOf, noMark}
+use Rattle.grammar.specs.Names.{Entry, numberOf}
+use Rattle.reader.specs.Marked.{entryOf, entriesOf, noMark}
 
 pub number-more : (t : List ℕ) (ms : List Mark) (name : List ℕ) (i : ℕ) → i < length ms → numberOf (entriesOf t (drop i ms)) name ≡ cond (sameBytes (entryOf t (getD ms i noMark) .name) name) (Some (getD ms i noMark .number)) (numberOf (entriesOf t (drop (i + 1) ms)) name)
 number-more t ms name i h = at-drop-more (λ l. numberOf (entriesOf t l) name) ms i noMark h

@@ -9,7 +9,8 @@ use Rattle.std.proofs.shelf.Lists.{take-more-set, length-take-le, length-push, 
 use Rattle.std.proofs.shelf.Tests.{cases-lt}
 use Rattle.lexer.specs.Lines.{Piece}
 use Rattle.reader.specs.declared.mark.Mark.{Mark}
-use Rattle.reader.specs.Names.{Entry, entryOf, entriesOf, noMark, Within}
+use Rattle.grammar.specs.Names.{Entry}
+use Rattle.reader.specs.Marked.{entryOf, entriesOf, noMark, Within}
 
 -- the mark lies in the text
 pub record Lies (t : List ℕ) (m : Mark) : Type 0 where

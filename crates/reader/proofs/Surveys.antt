@@ -14,11 +14,12 @@ use Rattle.lexer.specs.Lines.{Piece}
 use Rattle.syntax.specs.declared.fault.LineFault.{LineFault}
 use Rattle.syntax.specs.declared.statement.Statement.{Statement}
 use Rattle.syntax.specs.declared.statement.Statement.the-variants.{Label, Instruction as Instructs}
-use Rattle.reader.specs.declared.fault.ProgramFault.{ProgramFault}
+use Rattle.grammar.specs.declared.fault.ProgramFault.{ProgramFault}
 use Rattle.reader.specs.declared.mark.Mark.{Mark}
-use Rattle.reader.specs.Names.{Entry, entryOf, entriesOf, isKnown}
+use Rattle.grammar.specs.Names.{Entry, isKnown}
+use Rattle.reader.specs.Marked.{entryOf, entriesOf}
 use Rattle.reader.specs.Passes.{instructing, instructionsIn}
-use Rattle.reader.specs.Reading.{Fields, Survey, firstPlace, entry, isRet, said, surveyed, surveyFrom}
+use Rattle.grammar.specs.Reading.{Fields, Survey, firstPlace, entry, isRet, said, surveyed, surveyFrom}
 use Rattle.reader.proofs.Marks.{entries-more}
 
 pub label-step : (t : List ℕ) (ms : List Mark) (k room n : ℕ) (closed : Bool) (m : Mark) (lines rest : List Fields) (l : Fields) (name : Piece) → k < length ms → lines ≡ l ∷ rest → Ok (Label name) ≡ said l → isKnown (entriesOf t (take k ms)) (name .bytes) ≡ false → entryOf t m ≡ entry name n → surveyFrom room (entriesOf t (take (k + 1) (set ms k m))) n false rest ≡ surveyFrom room (entriesOf t (take k ms)) n closed lines

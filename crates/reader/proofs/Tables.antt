@@ -9,9 +9,9 @@ use Rattle.std.specs.declared.result.Result.{Result}
 use Rattle.std.specs.declared.result.Result.the-variants.{Ok, Err}
 use Rattle.rule.specs.declared.record.Record.{Record}
 use Rattle.rule.specs.Records.{blank}
-use Rattle.reader.specs.declared.fault.ProgramFault.{ProgramFault}
-use Rattle.reader.specs.declared.shape.Shape.{Shape}
-use Rattle.reader.specs.Reading.{Program, tableOf, shapeOf}
+use Rattle.grammar.specs.declared.fault.ProgramFault.{ProgramFault}
+use Rattle.grammar.specs.declared.shape.Shape.{Shape}
+use Rattle.grammar.specs.Reading.{Program, tableOf, shapeOf}
 
 pub read-ok : (room : ℕ) (s : Shape) (was after : List Record) (v : ℕ → Result Program ProgramFault) → was ≡ replicate room blank → length after ≡ length was → s .buffers + s .instructions ≤ length was → v (length was) ≡ Ok (record { buffers = take (s .buffers) after; instructions = take (s .instructions) (drop (s .buffers) after) }) → drop (s .buffers + s .instructions) after ≡ drop (s .buffers + s .instructions) was → (Ok s ≡ shapeOf (v room)) × (after ≡ tableOf room (v room))
 read-ok room s was after v b same w e rest =

@@ -10,7 +10,7 @@ use Rattle.std.specs.Results.{Cases}
 use Rattle.std.specs.declared.result.Result.{Result}
 use Rattle.std.specs.declared.result.Result.the-variants.{Ok, Err}
 use Rattle.rule.specs.declared.record.Record.{Record}
-use Rattle.reader.specs.declared.fault.ProgramFault.{ProgramFault}
+use Rattle.grammar.specs.declared.fault.ProgramFault.{ProgramFault}
 
 module _ (xs ys : List Record) (n : ℕ) (le : n ≤ length xs) where
   -- behind its front lies what was written

@@ -16,10 +16,10 @@ use Rattle.lexer.specs.declared.lexer.Lexer.{Lexer}
 use Rattle.lexer.specs.Foreign.{foreign}
 use Rattle.lexer.specs.Lines.{filledLines, linesOf}
 use Rattle.rule.specs.declared.record.Record.{Record}
-use Rattle.reader.specs.declared.fault.ProgramFault.{ProgramFault}
-use Rattle.reader.specs.Names.{Entry}
+use Rattle.grammar.specs.declared.fault.ProgramFault.{ProgramFault}
+use Rattle.grammar.specs.Names.{Entry}
 use Rattle.reader.specs.Passes.{codeIn}
-use Rattle.reader.specs.Reading.{Fields, Heads, Program, andThen, buffersFrom, codeOf, coded, bodyOf, programOf, clean, reading}
+use Rattle.grammar.specs.Reading.{Fields, Heads, Program, andThen, buffersFrom, codeOf, coded, bodyOf, programOf, clean, reading}
 
 -- the text up to its code is fine, and its code gives r
 pub record Parts (room : ℕ) (t : List ℕ) (ls code : List Fields) (names : List Entry) (heads : List Record) (r : Result (List Record) ProgramFault) : Type 0 where

@@ -1,6 +1,3 @@
-pub mod Names
-pub mod Links
-pub mod Reading
+pub mod Marked
 pub mod Scopes
 pub mod Passes
-pub mod Refusals

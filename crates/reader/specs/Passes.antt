@@ -11,7 +11,7 @@ use Rattle.lexer.specs.Lines.{Piece, linesOf}
 use Rattle.syntax.specs.declared.fault.LineFault.{LineFault}
 use Rattle.syntax.specs.declared.statement.Statement.{Statement}
 use Rattle.syntax.specs.declared.statement.Statement.the-variants.{Label, Instruction as Instructs}
-use Rattle.reader.specs.Reading.{Fields, said}
+use Rattle.grammar.specs.Reading.{Fields, said}
 
 -- the lines of the code, where `code` has come
 abbrev pub codeIn : Bool → Lexer → Option (List Fields)

@@ -1,7 +1,7 @@
 -- What the code has of the names of a text.
 use Rattle.reader.specs.declared.scope.Scope.{Scope}
-use Rattle.reader.specs.Links as links
-use Rattle.reader.specs.Names.{entriesOf, Within}
+use Rattle.grammar.specs.Links as links
+use Rattle.reader.specs.Marked.{entriesOf, Within}
 
 abbrev pub scopeIn : Scope → links.Scope
 scopeIn s = record { buffers = entriesOf (s .text .now) (s .names .now); heads = s .heads .now; labels = entriesOf (s .text .now) (s .labels .now); count = s .count }

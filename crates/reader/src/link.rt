@@ -6,14 +6,14 @@ ghost use Rattle.std.specs.Results.{Cases};
 ghost use Rattle.std.specs.declared.result.Result.the-variants.{Ok, Err};
 ghost use Rattle.lexer.specs.Lines.{linesOf};
 ghost use Rattle.reader.specs.Passes.{instructionsIn};
-ghost use Rattle.reader.specs.Reading.{linkFrom};
+ghost use Rattle.grammar.specs.Reading.{linkFrom};
 ghost use Rattle.reader.specs.Scopes.{scopeIn, Inside};
 use lexer::Lexer;
 use rule::Record;
 use syntax::Statement;
 use syntax::parse_statement;
-use super::fault::ProgramFault;
-use super::fault::ProgramFromLine;
+use grammar::ProgramFault;
+use grammar::ProgramFromLine;
 use super::scope::Scope;
 
 /// Writes the instructions of the lines that are left to the front of the slots, with their names resolved.

@@ -1,7 +1,8 @@
 ghost use mathlib.Core.Path.{_≡_};
 ghost use Prim.Native.Nat.{_+_, _<_, _≤_};
 ghost use lib.ListN.{length, take, drop};
-ghost use Rattle.reader.specs.Names.{entryOf, entriesOf, numberOf, Within};
+ghost use Rattle.grammar.specs.Names.{numberOf};
+ghost use Rattle.reader.specs.Marked.{entryOf, entriesOf, Within};
 use lexer::Name;
 use lexer::is_same;
 

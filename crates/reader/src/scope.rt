@@ -2,7 +2,7 @@ ghost use mathlib.Core.Path.{_≡_};
 ghost use lib.ListN.{getD};
 ghost use Rattle.lexer.specs.Fields.{spelled};
 ghost use Rattle.syntax.specs.Spelled.{instruction as spelledInstruction};
-ghost use Rattle.reader.specs.Links.{source as sourceOf, sink as sinkOf, target as targetOf, itemOf, isWritable};
+ghost use Rattle.grammar.specs.Links.{source as sourceOf, sink as sinkOf, target as targetOf, itemOf, isWritable};
 ghost use Rattle.rule.specs.Records.{blank};
 ghost use Rattle.reader.specs.Scopes.{scopeIn, Inside};
 use lexer::Name;
@@ -10,7 +10,7 @@ use rule::Item;
 use rule::Mode;
 use rule::Record;
 use syntax::Instruction;
-use super::fault::ProgramFault;
+use grammar::ProgramFault;
 use super::mark::Mark;
 use super::mark::lookup;
 

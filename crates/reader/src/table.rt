@@ -5,8 +5,8 @@ ghost use Rattle.std.specs.Results.{Cases};
 ghost use Rattle.std.specs.declared.result.Result.the-variants.{Ok, Err};
 ghost use Rattle.rule.specs.Records.{blank};
 ghost use Rattle.lexer.specs.Lines.{linesOf, filledLines};
-ghost use Rattle.reader.specs.declared.fault.ProgramFault.the-variants.{Line as InLine};
-ghost use Rattle.reader.specs.Reading.{bodyOf, programOf, clean, reading, tableOf, shapeOf};
+ghost use Rattle.grammar.specs.declared.fault.ProgramFault.the-variants.{Line as InLine};
+ghost use Rattle.grammar.specs.Reading.{bodyOf, programOf, clean, reading, tableOf, shapeOf};
 ghost use Rattle.lexer.specs.Foreign.{foreign};
 use lexer::Lexer;
 use lexer::Place;
@@ -17,10 +17,10 @@ use syntax::LineFromField;
 use syntax::is_heading;
 use super::buffers::read_buffers;
 use super::code::read_rest;
-use super::fault::ProgramFault;
-use super::fault::ProgramFromLine;
+use grammar::ProgramFault;
+use grammar::ProgramFromLine;
 use super::mark::Mark;
-use super::shape::Shape;
+use grammar::Shape;
 
 /// Goes past the heading of a text, all of whose characters are fit.
 fn open_text(text: &[u8], lexer: &mut Lexer) -> Result<(), LineFault>

@@ -2,7 +2,7 @@
 ghost use Prim.Native.Nat.{_≤_};
 ghost use lib.ListN.{length};
 ghost use Rattle.std.specs.Results.{Cases};
-use reader::Refusal;
+use grammar::Refusal;
 use reader::read;
 use rule::Record;
 use std::io;

@@ -3,8 +3,8 @@ use mathlib.Core.Path.{_≡_}
 use mathlib.Core.List.{[]}
 use lib.ListN.{length, take, drop}
 use Rattle.lexer.specs.Lines.{linesOf}
-use Rattle.reader.specs.Names.{entriesOf, Within}
-use Rattle.reader.specs.Reading.{buffersFrom}
+use Rattle.reader.specs.Marked.{entriesOf, Within}
+use Rattle.grammar.specs.Reading.{buffersFrom}
 use Rattle.reader.proofs.buffers.read_buffers.Given as given
 
 abbrev pub Inv-loop-first : given.InvT-loop-first

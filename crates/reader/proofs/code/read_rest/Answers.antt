@@ -4,8 +4,8 @@ use Prim.Native.Nat.{_≤_}
 use lib.ListN.{length}
 use Rattle.std.proofs.shelf.Parts.{overwrites, take-putMid-below}
 use Rattle.lexer.specs.Lines.{linesOf}
-use Rattle.reader.specs.Names.{entriesOf}
-use Rattle.reader.specs.Reading.{codeOf}
+use Rattle.reader.specs.Marked.{entriesOf}
+use Rattle.grammar.specs.Reading.{codeOf}
 use Rattle.reader.proofs.Tails.{part-cases, part-rest}
 use Rattle.reader.proofs.code.read_rest.Needs as need
 

@@ -4,7 +4,7 @@ use mathlib.Core.List.{[]}
 use lib.ListN.{length, take, drop}
 use Rattle.lexer.specs.Lines.{linesOf}
 use Rattle.reader.specs.Passes.{instructionsIn}
-use Rattle.reader.specs.Reading.{linkFrom}
+use Rattle.grammar.specs.Reading.{linkFrom}
 use Rattle.reader.specs.Scopes.{scopeIn}
 use Rattle.reader.proofs.link.link_code.Given as given
 

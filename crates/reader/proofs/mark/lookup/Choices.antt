@@ -1,6 +1,7 @@
 use mathlib.Core.Path.{_≡_}
 use lib.ListN.{drop}
-use Rattle.reader.specs.Names.{numberOf, entriesOf}
+use Rattle.grammar.specs.Names.{numberOf}
+use Rattle.reader.specs.Marked.{entriesOf}
 use Rattle.reader.proofs.mark.lookup.Given as given
 
 abbrev pub Inv-loop-mark : given.InvT-loop-mark

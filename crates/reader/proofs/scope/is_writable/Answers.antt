@@ -3,7 +3,7 @@ use native.Mathlib.Omega.{arith}
 use Rattle.std.proofs.shelf.Lists.{getD-past}
 use Rattle.rule.specs.declared.record.Record.{Record}
 use Rattle.rule.specs.Records.{blank}
-use Rattle.reader.specs.Links.{isWritable}
+use Rattle.grammar.specs.Links.{isWritable}
 use Rattle.reader.proofs.scope.is_writable.Needs as need
 
 pub returns-then-buffer-heads : need.returns-then-buffer-heads

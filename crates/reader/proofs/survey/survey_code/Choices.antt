@@ -4,8 +4,8 @@ use mathlib.Core.Bool.{false}
 use mathlib.Core.List.{[]}
 use lib.ListN.{length, take}
 use Rattle.lexer.specs.Lines.{linesOf}
-use Rattle.reader.specs.Names.{entriesOf, Within}
-use Rattle.reader.specs.Reading.{surveyFrom}
+use Rattle.reader.specs.Marked.{entriesOf, Within}
+use Rattle.grammar.specs.Reading.{surveyFrom}
 use Rattle.reader.proofs.survey.survey_code.Given as given
 
 -- a label has two bytes at least, so there are half as many as bytes at most

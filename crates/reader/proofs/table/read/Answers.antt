@@ -1,7 +1,7 @@
 use mathlib.Core.Path.{_≡_}
 use borrow.Author.Needs.{needs}
 use lib.ListN.{length}
-use Rattle.reader.specs.Reading.{reading}
+use Rattle.grammar.specs.Reading.{reading}
 use Rattle.reader.proofs.Tables.{read-ok, read-err}
 use Rattle.reader.proofs.table.read.Needs as need
 

@@ -17,9 +17,9 @@ use Rattle.rule.specs.declared.record.Record.{Record}
 use Rattle.rule.specs.Records.{blank}
 use Rattle.syntax.specs.declared.statement.Instruction.{Instruction}
 use Rattle.syntax.specs.declared.statement.Instruction.the-variants.{Mov, Alu, Load, Store, Jump, Branch, Ret}
-use Rattle.reader.specs.declared.fault.ProgramFault.{ProgramFault}
-use Rattle.reader.specs.declared.fault.ProgramFault.the-variants.{Unknown, Backward, ReadOnly}
-use Rattle.reader.specs.Names.{Entry, numberOf}
+use Rattle.grammar.specs.declared.fault.ProgramFault.{ProgramFault}
+use Rattle.grammar.specs.declared.fault.ProgramFault.the-variants.{Unknown, Backward, ReadOnly}
+use Rattle.grammar.specs.Names.{Entry, numberOf}
 
 -- what the names of a text stand for: its buffers by name and as records, its labels, and how many instructions it has
 pub record Scope : Type 0 where

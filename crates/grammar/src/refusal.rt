@@ -1,5 +1,5 @@
 ghost use mathlib.Core.Path.{_≡_};
-ghost use Rattle.reader.specs.Refusals.{refused, refusalOf};
+ghost use Rattle.grammar.specs.Refusals.{refused, refusalOf};
 use lexer::FieldFault;
 use lexer::Place;
 use syntax::LineFault;

@@ -3,9 +3,9 @@ use Prim.Native.Nat.{ℕ}
 use Rattle.lexer.specs.declared.place.Place.{Place}
 use Rattle.lexer.specs.declared.fault.FieldFault.the-variants.{Character, Kind}
 use Rattle.syntax.specs.declared.fault.LineFault.the-variants.{Field, Heading, Form}
-use Rattle.reader.specs.declared.fault.ProgramFault.{ProgramFault}
-use Rattle.reader.specs.declared.fault.ProgramFault.the-variants.{Line, TooLong, Repeated, Full, Unknown, Backward, ReadOnly, Unclosed}
-use Rattle.reader.specs.declared.refusal.Refusal.{Refusal}
+use Rattle.grammar.specs.declared.fault.ProgramFault.{ProgramFault}
+use Rattle.grammar.specs.declared.fault.ProgramFault.the-variants.{Line, TooLong, Repeated, Full, Unknown, Backward, ReadOnly, Unclosed}
+use Rattle.grammar.specs.declared.refusal.Refusal.{Refusal}
 
 -- refusal number, layer, spot
 abbrev pub refused : ℕ → ℕ → Place → Refusal

@@ -1,5 +1,5 @@
 ghost use mathlib.Core.Path.{_≡_};
-ghost use Rattle.reader.specs.declared.fault.ProgramFault.the-variants.{Line as InLine};
+ghost use Rattle.grammar.specs.declared.fault.ProgramFault.the-variants.{Line as InLine};
 use lexer::Place;
 use syntax::LineFault;
 

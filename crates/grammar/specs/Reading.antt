@@ -25,11 +25,11 @@ use Rattle.syntax.specs.declared.statement.Instruction.the-variants.{Mov, Alu, 
 use Rattle.syntax.specs.declared.statement.Statement.{Statement}
 use Rattle.syntax.specs.declared.statement.Statement.the-variants.{Label, Instruction as Instructs}
 use Rattle.syntax.specs.Statements.{isHeading, headerOf, statementOf}
-use Rattle.reader.specs.declared.fault.ProgramFault.{ProgramFault}
-use Rattle.reader.specs.declared.fault.ProgramFault.the-variants.{Line, TooLong, Repeated, Full, Unclosed}
-use Rattle.reader.specs.declared.shape.Shape.{Shape}
-use Rattle.reader.specs.Names.{Entry, isKnown}
-use Rattle.reader.specs.Links.{Scope, itemOf}
+use Rattle.grammar.specs.declared.fault.ProgramFault.{ProgramFault}
+use Rattle.grammar.specs.declared.fault.ProgramFault.the-variants.{Line, TooLong, Repeated, Full, Unclosed}
+use Rattle.grammar.specs.declared.shape.Shape.{Shape}
+use Rattle.grammar.specs.Names.{Entry, isKnown}
+use Rattle.grammar.specs.Links.{Scope, itemOf}
 
 -- a line that has fields, as its fields
 abbrev pub Fields : Type 0

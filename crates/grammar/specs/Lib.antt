@@ -1,0 +1,4 @@
+pub mod Names
+pub mod Links
+pub mod Reading
+pub mod Refusals
