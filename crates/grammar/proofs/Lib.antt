@@ -1,0 +1,12 @@
+pub mod Fits
+pub mod Forms
+pub mod Spellings
+pub mod Lines
+pub mod Lookups
+pub mod Buffers
+pub mod Shapes
+pub mod Codes
+pub mod Blames
+pub mod Linking
+pub mod Bytes
+pub mod Verdicts

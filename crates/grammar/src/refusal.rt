@@ -1,9 +1,9 @@
 ghost use mathlib.Core.Path.{_≡_};
 ghost use Rattle.grammar.specs.Refusals.{refused, refusalOf};
+use super::fault::ProgramFault;
 use lexer::FieldFault;
 use lexer::Place;
 use syntax::LineFault;
-use super::fault::ProgramFault;
 
 /// What a fault tells: the number of the refusal, the spot that it names, and the layer that found it.
 #[derive(Clone, Copy)]
@@ -33,10 +33,18 @@ impl ProgramFault {
     {
         match self {
             ProgramFault::TooLong => Refusal::new(1, 4, Place { line: 0, at: 0 }),
-            ProgramFault::Line(LineFault::Field(FieldFault::Character(fault))) => Refusal::new(2, 1, fault.place),
+            ProgramFault::Line(LineFault::Field(FieldFault::Character(fault))) => Refusal::new(
+                2,
+                1,
+                fault.place,
+            ),
             ProgramFault::Line(LineFault::Heading(place)) => Refusal::new(3, 3, place),
             ProgramFault::Line(LineFault::Form(place)) => Refusal::new(4, 3, place),
-            ProgramFault::Line(LineFault::Field(FieldFault::Kind(place))) => Refusal::new(5, 2, place),
+            ProgramFault::Line(LineFault::Field(FieldFault::Kind(place))) => Refusal::new(
+                5,
+                2,
+                place,
+            ),
             ProgramFault::Repeated(place) => Refusal::new(6, 4, place),
             ProgramFault::Unknown(place) => Refusal::new(7, 4, place),
             ProgramFault::Full(place) => Refusal::new(8, 4, place),

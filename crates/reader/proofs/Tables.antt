@@ -25,14 +25,13 @@ read-ok room s was after v b same w e rest =
     let second : length code ≡ m = length-take-le m (drop n after) (simp length-drop (omega arith)) in
     let both : length (heads ++ code) ≡ n + m = length-append heads code ∙ omega (arith, first, second) in
     let tail : drop m (drop n after) ≡ replicate (room - length (heads ++ code)) blank = drop-drop m n after ∙ rest ∙ ap (drop (n + m)) b ∙ drop-replicate (n + m) room blank ∙ ap (λ k. replicate (room - k) blank) (sym both) in
-    let shape : ℕ → ℕ → Result Shape ProgramFault = λ i j. Ok (record { buffers = i; instructions = j }) in
-    (
+    let shape : ℕ → ℕ → Result Shape ProgramFault = λ i j. Ok (record { buffers = i; instructions = j }) in (
       ap (λ i. shape i m) (sym first) ∙ ap (shape (length heads)) (sym second) ∙ ap shapeOf (sym is),
       sym (take-append-drop n after)
-      ∙ ap (λ l. heads ++ l) (sym (take-append-drop m (drop n after)))
-      ∙ sym (append-assoc heads code (drop m (drop n after)))
-      ∙ ap (λ l. (heads ++ code) ++ l) tail
-      ∙ ap (tableOf room) (sym is),
+          ∙ ap (λ l. heads ++ l) (sym (take-append-drop m (drop n after)))
+          ∙ sym (append-assoc heads code (drop m (drop n after)))
+          ∙ ap (λ l. (heads ++ code) ++ l) tail
+          ∙ ap (tableOf room) (sym is),
     )
 
 pub read-err : (room : ℕ) (f : ProgramFault) (was after : List Record) (v : ℕ → Result Program ProgramFault) → length was ≡ room → v (length was) ≡ Err f → after ≡ replicate room blank → (Err f ≡ shapeOf (v room)) × (after ≡ tableOf room (v room))

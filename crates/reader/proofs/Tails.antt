@@ -33,8 +33,7 @@ module _ (xs ys : List Record) (n : ℕ) (le : n ≤ length xs) where
 
   pub part-rest : (r : Result ℕ ProgramFault) → Cases r (λ m. (m ≤ length (take (length xs - n) (drop n xs))) × (drop m ys ≡ drop m (take (length xs - n) (drop n xs)))) (λ _. Unit {0}) → Cases r (λ m. (n + m ≤ length xs) × (drop (n + m) (putMid n (length xs - n) xs ys) ≡ drop (n + m) xs)) (λ _. Unit {0})
   part-rest (Ok m) is =
-      let long : length (take (length xs - n) (drop n xs)) ≡ length xs - n = ap length (take-rest xs n) ∙ length-drop n xs in
-      (
+      let long : length (take (length xs - n) (drop n xs)) ≡ length xs - n = ap length (take-rest xs n) ∙ length-drop n xs in (
         omega (arith, is .0),
         sym (drop-drop m n (putMid n (length xs - n) xs ys)) ∙ ap (drop m) drop-part ∙ is .1 ∙ ap (drop m) (take-rest xs n) ∙ drop-drop m n xs,
       )

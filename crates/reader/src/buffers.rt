@@ -8,15 +8,15 @@ ghost use Rattle.lexer.specs.Lines.{linesOf};
 ghost use Rattle.reader.specs.Marked.{entriesOf, Within};
 ghost use Rattle.grammar.specs.Reading.{buffersFrom};
 ghost use Rattle.reader.specs.Passes.{codeIn};
+use super::mark::Mark;
+use super::mark::lookup;
+use grammar::ProgramFault;
+use grammar::ProgramFromLine;
 use lexer::Lexer;
 use rule::Item;
 use rule::Record;
 use syntax::Header;
 use syntax::parse_header;
-use grammar::ProgramFault;
-use grammar::ProgramFromLine;
-use super::mark::Mark;
-use super::mark::lookup;
 
 /// How many buffers a text has, and whether the line `code` came after them.
 #[derive(Clone, Copy)]
@@ -64,5 +64,8 @@ pub(crate) fn read_buffers(
             }
         }
     }
-    Ok(Heads { count, coded: false })
+    Ok(Heads {
+        count,
+        coded: false,
+    })
 }

@@ -6,13 +6,13 @@ ghost use Rattle.std.specs.declared.result.Result.the-variants.{Ok, Err};
 ghost use Rattle.lexer.specs.Lines.{linesOf};
 ghost use Rattle.reader.specs.Marked.{entriesOf, Within};
 ghost use Rattle.grammar.specs.Reading.{codeOf};
-use lexer::Lexer;
-use rule::Record;
-use grammar::ProgramFault;
 use super::link::link_code;
 use super::mark::Mark;
 use super::scope::Scope;
 use super::survey::survey_code;
+use grammar::ProgramFault;
+use lexer::Lexer;
+use rule::Record;
 
 /// Writes the instructions after the line `code` to the front of the slots.
 fn read_code<'a>(

@@ -8,16 +8,20 @@ ghost use Rattle.lexer.specs.Lines.{linesOf};
 ghost use Rattle.reader.specs.Passes.{instructionsIn};
 ghost use Rattle.grammar.specs.Reading.{linkFrom};
 ghost use Rattle.reader.specs.Scopes.{scopeIn, Inside};
+use super::scope::Scope;
+use grammar::ProgramFault;
+use grammar::ProgramFromLine;
 use lexer::Lexer;
 use rule::Record;
 use syntax::Statement;
 use syntax::parse_statement;
-use grammar::ProgramFault;
-use grammar::ProgramFromLine;
-use super::scope::Scope;
 
 /// Writes the instructions of the lines that are left to the front of the slots, with their names resolved.
-pub(crate) fn link_code(scope: Scope, mut lexer: Lexer, slots: &mut [Record]) -> Result<usize, ProgramFault>
+pub(crate) fn link_code(
+    scope: Scope,
+    mut lexer: Lexer,
+    slots: &mut [Record],
+) -> Result<usize, ProgramFault>
     requires inside { ⌜ Inside scope ⌝ }
     requires fits { ⌜ instructionsIn (linesOf lexer) ≤ length (now slots) ⌝ }
     ensures cases { λ r. ⌜ Cases r

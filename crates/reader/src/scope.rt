@@ -5,14 +5,14 @@ ghost use Rattle.syntax.specs.Spelled.{instruction as spelledInstruction};
 ghost use Rattle.grammar.specs.Links.{source as sourceOf, sink as sinkOf, target as targetOf, itemOf, isWritable};
 ghost use Rattle.rule.specs.Records.{blank};
 ghost use Rattle.reader.specs.Scopes.{scopeIn, Inside};
+use super::mark::Mark;
+use super::mark::lookup;
+use grammar::ProgramFault;
 use lexer::Name;
 use rule::Item;
 use rule::Mode;
 use rule::Record;
 use syntax::Instruction;
-use grammar::ProgramFault;
-use super::mark::Mark;
-use super::mark::lookup;
 
 /// What the names of a text stand for: its buffers by name and as records, its labels, and how many instructions it has.
 #[derive(Clone, Copy)]
@@ -31,7 +31,10 @@ fn is_writable(heads: &[Record], buffer: usize) -> bool
         return false;
     }
     match heads[buffer].item {
-        Item::Buffer { size: _, mode: Mode::ReadWrite } => true,
+        Item::Buffer {
+            size: _,
+            mode: Mode::ReadWrite,
+        } => true,
         _ => false,
     }
 }
@@ -73,28 +76,70 @@ impl Scope<'_, '_> {
     }
 
     /// Instruction k with its names resolved.
-    pub(crate) fn resolve(&self, k: usize, instruction: Instruction<Name>) -> Result<Item, ProgramFault>
+    pub(crate) fn resolve(
+        &self,
+        k: usize,
+        instruction: Instruction<Name>,
+    ) -> Result<Item, ProgramFault>
         requires { ⌜ Inside (now self) ⌝ }
         ensures { λ r. ⌜ r ≡ itemOf (scopeIn (now (self .entry))) k (spelledInstruction (instruction .entry)) ⌝ }
     {
         match instruction {
             Instruction::Mov { target, source } => Ok(Item::Mov { target, source }),
-            Instruction::Alu { operation, target, operand } => Ok(Item::Alu { operation, target, operand }),
-            Instruction::Load { width, target, buffer, index } => {
+            Instruction::Alu {
+                operation,
+                target,
+                operand,
+            } => Ok(Item::Alu {
+                operation,
+                target,
+                operand,
+            }),
+            Instruction::Load {
+                width,
+                target,
+                buffer,
+                index,
+            } => {
                 let buffer = self.source(buffer)?;
-                Ok(Item::Load { width, target, buffer, index })
+                Ok(Item::Load {
+                    width,
+                    target,
+                    buffer,
+                    index,
+                })
             }
-            Instruction::Store { width, buffer, index, source } => {
+            Instruction::Store {
+                width,
+                buffer,
+                index,
+                source,
+            } => {
                 let buffer = self.sink(buffer)?;
-                Ok(Item::Store { width, buffer, index, source })
+                Ok(Item::Store {
+                    width,
+                    buffer,
+                    index,
+                    source,
+                })
             }
             Instruction::Jump { to } => {
                 let to = self.target(k, to)?;
                 Ok(Item::Jump { to })
             }
-            Instruction::Branch { condition, left, right, to } => {
+            Instruction::Branch {
+                condition,
+                left,
+                right,
+                to,
+            } => {
                 let to = self.target(k, to)?;
-                Ok(Item::Branch { condition, left, right, to })
+                Ok(Item::Branch {
+                    condition,
+                    left,
+                    right,
+                    to,
+                })
             }
             Instruction::Ret => Ok(Item::Ret),
         }

@@ -8,15 +8,15 @@ ghost use Rattle.std.specs.declared.result.Result.the-variants.{Ok, Err};
 ghost use Rattle.lexer.specs.Lines.{linesOf};
 ghost use Rattle.reader.specs.Marked.{entriesOf, Within};
 ghost use Rattle.grammar.specs.Reading.{surveyFrom, isRet};
+use super::mark::Mark;
+use super::mark::lookup;
+use grammar::ProgramFault;
+use grammar::ProgramFromLine;
 use lexer::Lexer;
 use lexer::Name;
 use syntax::Instruction;
 use syntax::Statement;
 use syntax::parse_statement;
-use grammar::ProgramFault;
-use grammar::ProgramFromLine;
-use super::mark::Mark;
-use super::mark::lookup;
 
 /// How many labels and instructions the code of a text has, and whether its last line is `ret`.
 #[derive(Clone, Copy)]

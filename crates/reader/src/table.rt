@@ -1,13 +1,21 @@
 ghost use mathlib.Core.Path.{_≡_};
 ghost use Prim.Native.Nat.{ℕ, _+_, _≤_};
 ghost use lib.ListN.{length, take, drop, replicate};
-ghost use Rattle.std.specs.Results.{Cases};
+ghost use mathlib.Core.Bool.{true};
+ghost use Rattle.std.specs.Results.{Cases, isOk};
+ghost use Rattle.grammar.specs.Causes.{Judged, Unblamed};
 ghost use Rattle.std.specs.declared.result.Result.the-variants.{Ok, Err};
 ghost use Rattle.rule.specs.Records.{blank};
 ghost use Rattle.lexer.specs.Lines.{linesOf, filledLines};
 ghost use Rattle.grammar.specs.declared.fault.ProgramFault.the-variants.{Line as InLine};
 ghost use Rattle.grammar.specs.Reading.{bodyOf, programOf, clean, reading, tableOf, shapeOf};
 ghost use Rattle.lexer.specs.Foreign.{foreign};
+use super::buffers::read_buffers;
+use super::code::read_rest;
+use super::mark::Mark;
+use grammar::ProgramFault;
+use grammar::ProgramFromLine;
+use grammar::Shape;
 use lexer::Lexer;
 use lexer::Place;
 use lexer::check_text;
@@ -15,12 +23,6 @@ use rule::Record;
 use syntax::LineFault;
 use syntax::LineFromField;
 use syntax::is_heading;
-use super::buffers::read_buffers;
-use super::code::read_rest;
-use grammar::ProgramFault;
-use grammar::ProgramFromLine;
-use super::mark::Mark;
-use grammar::Shape;
 
 /// Goes past the heading of a text, all of whose characters are fit.
 fn open_text(text: &[u8], lexer: &mut Lexer) -> Result<(), LineFault>
@@ -73,6 +75,8 @@ fn fill_table(text: &[u8], table: &mut [Record]) -> Result<Shape, ProgramFault>
 /// A refused text leaves the whole table blank.
 pub fn read(text: &[u8], table: &mut [Record]) -> Result<Shape, ProgramFault>
     ensures value { λ r. ⌜ r ≡ shapeOf (reading (length (now (table .entry))) (now (text .entry))) ⌝ }
+    ensures judged { λ r. ⌜ Judged (length (now (table .entry))) (now (text .entry)) r ⌝ }
+    ensures only { λ r. ⌜ (Unblamed (length (now (table .entry))) (now (text .entry)) → isOk r ≡ true) ⌝ }
     ensures after { λ _. ⌜ now (table .exit) ≡ tableOf (length (now (table .entry))) (reading (length (now (table .entry))) (now (text .entry))) ⌝ }
 {
     table.fill(Record::BLANK);

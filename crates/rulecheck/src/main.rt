@@ -42,8 +42,16 @@ fn main(rt: LibcRuntime) -> io::Result<()> {
             println!(rt, "buffers instructions\n{buffers} {instructions}")
         }
         Err(fault) => {
-            let Refusal { number, line, place, layer } = fault.refusal();
-            println!(rt, "number line place layer\n{number} {line} {place} {layer}")
+            let Refusal {
+                number,
+                line,
+                place,
+                layer,
+            } = fault.refusal();
+            println!(
+                rt,
+                "number line place layer\n{number} {line} {place} {layer}"
+            )
         }
     }
 }

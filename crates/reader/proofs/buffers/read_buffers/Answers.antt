@@ -20,8 +20,7 @@ loop-first-again c =
     let bytes = ap (λ (p : Piece). p .bytes) named in
     let long = ap length bytes in
     let text = inv .2 ∙ c .pre .same in
-    let size = ap length text in
-    (
+    let size = ap length text in (
       omega arith,
       simp length-set (omega arith),
       c .next-filled .ensures .same ∙ inv .2,

@@ -8,5 +8,5 @@ use Rattle.reader.proofs.code.read_code.Needs as need
 pub link-code-requires : need.link-code-requires
 link-code-requires c κs =
     let survey = c .in-Continue-survey .ensures tt in
-    let count : c .in-Continue-survey .survey .instructions ≡ instructionsIn (linesOf (c .args .lexer)) = survey-counts _ _ _ (survey .cases) in
+    let count : c .in-Continue-survey .survey .instructions ≡ instructionsIn (linesOf (c .args .lexer)) = survey-counts (linesOf (c .args .lexer)) (c .min .result) _ (survey .cases) in
     record { inside = (c .pre .within, survey .within .2); fits = omega (arith, survey .within .1, c .min .ensures) }

@@ -17,8 +17,7 @@ loop-first-again-in-Instruction c =
     let inv = c .loop-first .inv in
     let line = c .in-Some .ensures tt in
     let says : Ok (Instructs (spelledInstruction (c .in-Instruction .instruction))) ≡ statementOf (pieceOf (c .in-Some .first)) (piecesOf (c .in-Some .rest)) = search needs in
-    let less = one-less _ _ _ _ (line .cases) says in
-    (
+    let less = one-less _ _ _ _ (line .cases) says in (
       simp length-set (omega arith),
       link-step (scopeIn (c .args .scope)) (c .loop-first .slots) (c .loop-first .count) _ _ _ _ (spelledInstruction (c .in-Instruction .instruction)) (c .in-Continue-resolve .field-0) (omega arith) (line .cases) says (c .in-Continue-resolve .ensures tt) refl ∙ inv .1,
       rest-step (c .loop-first .slots) (c .args .slots .now) (c .loop-first .count) _ (inv .2),

@@ -23,8 +23,7 @@ loop-first-again-in-Label c =
     let bytes = ap (λ (p : Piece). p .bytes) named in
     let long = unmarked-long (c .in-Label .name .text .now) (c .in-Some .first .text .now) bytes in
     let text = inv .3 ∙ c .pre .same in
-    let size = ap length text in
-    (
+    let size = ap length text in (
       omega (arith, line .within),
       omega (arith, line .within),
       inv .2,

@@ -18,15 +18,15 @@ returns c =
     let count : length (take n (c .read-buffers .last .names)) ≡ n = length-take-le n (c .read-buffers .last .names) (omega (arith, heads .within)) in
     record {
       cases = written-whole (length (c .args .table .now)) (c .args .text .now) (linesOf (c .open-text .last .lexer)) (linesOf (c .read-buffers .last .lexer)) _ (c .read-buffers .last .table) (c .read-rest .last .table) n m (length (take n (c .read-buffers .last .names)))
-        (record {
-          count = count;
-          within = omega (arith, heads .within, c .read-buffers .kept .table);
-          long = c .read-buffers .kept .table;
-          short = le-ltb 8192 (length (c .args .text .now)) (omega arith);
-          opened = c .in-Continue-open-text .ensures tt .cases;
-          buffers = coded-heads _ _ (c .read-buffers .last .lexer) (c .in-Continue-heads .heads .coded) _ (not-false _ (c .if-not-heads .left)) (heads .cases);
-          rest = code .cases;
-          front = c .read-rest .ensures .front;
-        });
+          (record {
+            count = count;
+            within = omega (arith, heads .within, c .read-buffers .kept .table);
+            long = c .read-buffers .kept .table;
+            short = le-ltb 8192 (length (c .args .text .now)) (omega arith);
+            opened = c .in-Continue-open-text .ensures tt .cases;
+            buffers = coded-heads _ _ (c .read-buffers .last .lexer) (c .in-Continue-heads .heads .coded) _ (not-false _ (c .if-not-heads .left)) (heads .cases);
+            rest = code .cases;
+            front = c .read-rest .ensures .front;
+          });
       rest = (omega (arith, code .rest .0, count, c .read-buffers .kept .table), beyond (c .args .table .now) (c .read-buffers .last .table) (c .read-rest .last .table) n m _ count (heads .rest) (code .rest .1));
     }
