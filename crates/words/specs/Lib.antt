@@ -1,1 +1,3 @@
+pub mod Ternary
 pub mod Widths
+pub mod Words
