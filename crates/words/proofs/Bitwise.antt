@@ -36,7 +36,7 @@ module _ (a m b n : ℕ) (hm : m < 2 ^ 64) (hn : n < 2 ^ 64) where
   and-value-lt : bitAnd v w < 2 ^ 64
   and-value-lt = and-lt 64 v w (clear-lt a m) (clear-lt b n)
 
-  and-mask-lt : and-mask < 2 ^ 64
+  pub and-mask-lt : and-mask < 2 ^ 64
   and-mask-lt =
       clear-lt (bitAnd (most a m) (most b n)) (bitAnd v w)
 
@@ -89,7 +89,7 @@ module _ (a m b n : ℕ) (hm : m < 2 ^ 64) (hn : n < 2 ^ 64) where
   or-value-lt : bitOr v w < 2 ^ 64
   or-value-lt = or-lt 64 v w (clear-lt a m) (clear-lt b n)
 
-  or-mask-lt : or-mask < 2 ^ 64
+  pub or-mask-lt : or-mask < 2 ^ 64
   or-mask-lt = clear-lt (bitOr m n) (bitOr v w)
 
   bit-or-mask : (i : ℕ) → i < 64 → bit i or-mask ≡ max (bit i m) (bit i n) - max (bit i v) (bit i w)
@@ -138,7 +138,7 @@ module _ (a m b n : ℕ) (hm : m < 2 ^ 64) (hn : n < 2 ^ 64) where
   abbrev xor-value : ℕ
   xor-value = clear (bitXor v w) (bitOr m n)
 
-  xor-mask-lt : bitOr m n < 2 ^ 64
+  pub xor-mask-lt : bitOr m n < 2 ^ 64
   xor-mask-lt = or-lt 64 m n hm hn
 
   bit-xor-value : (i : ℕ) → i < 64 → bit i xor-value ≡ (bit i v + bit i w) % 2 - max (bit i m) (bit i n)

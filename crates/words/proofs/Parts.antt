@@ -22,7 +22,7 @@ module _ (a m b n : ℕ) (hm : m < 2 ^ 64) (hn : n < 2 ^ 64) where
   abbrev either-value : ℕ
   either-value = clear (bitAnd v w) either-mask
 
-  either-mask-lt : either-mask < 2 ^ 64
+  pub either-mask-lt : either-mask < 2 ^ 64
   either-mask-lt = or-lt 64 (bitXor v w) (bitOr m n) (xor-lt 64 v w (clear-lt a m) (clear-lt b n)) (or-lt 64 m n hm hn)
 
   bit-either-mask : (i : ℕ) → bit i either-mask ≡ max ((bit i v + bit i w) % 2) (max (bit i m) (bit i n))
@@ -87,7 +87,7 @@ module _ (a m b n : ℕ) (hm : m < 2 ^ 64) (hn : n < 2 ^ 64) where
         bit-le i n,
       )))
 
-  both-mask-lt : bitAnd m n < 2 ^ 64
+  pub both-mask-lt : bitAnd m n < 2 ^ 64
   both-mask-lt = and-lt 64 m n hm hn
 
   pub both-keeps : (x : ℕ) → Held a m x → Held b n x → Held (bitOr v w) (bitAnd m n) x

@@ -72,6 +72,9 @@ module _ (a m b n : ℕ) (hm : m < 2 ^ 64) (hn : n < 2 ^ 64) where
   abbrev add-mask : ℕ
   add-mask = bitOr (bitXor (plus (plus (plus v w) m) n) (plus v w)) (bitOr m n)
 
+  pub add-mask-lt : add-mask < 2 ^ 64
+  add-mask-lt = mask-lt (plus (plus (plus v w) m) n) (plus v w) (omega arith) (omega arith)
+
   -- the greatest sum
   most-sum : plus (plus (plus v w) m) n ≡ plus (most a m) (most b n)
   most-sum = omega (arith, most-is a m hm, most-is b n hn)
@@ -87,7 +90,7 @@ module _ (a m b n : ℕ) (hm : m < 2 ^ 64) (hn : n < 2 ^ 64) where
         hi-held = held-most b n hn;
         lo-under = λ y hy e. least-under b n hn y e;
         under-hi = λ y hy e. under-most b n hn y e;
-        mask-lt = mask-lt (plus (plus (plus v w) m) n) (plus v w) (omega arith) (omega arith);
+        mask-lt = add-mask-lt;
         mask-bit = mask-bit (plus (plus (plus v w) m) n) (plus v w) (plus (most a m) (most b n)) (plus v w) most-sum refl;
       }
 
@@ -101,6 +104,9 @@ module _ (a m b n : ℕ) (hm : m < 2 ^ 64) (hn : n < 2 ^ 64) where
 
   abbrev sub-mask : ℕ
   sub-mask = bitOr (bitXor (plus (minus v w) m) (minus (minus v w) n)) (bitOr m n)
+
+  pub sub-mask-lt : sub-mask < 2 ^ 64
+  sub-mask-lt = mask-lt (plus (minus v w) m) (minus (minus v w) n) (omega arith) (omega arith)
 
   -- the greatest difference, and the least
   most-difference : plus (minus v w) m ≡ minus (most a m) w
@@ -120,7 +126,7 @@ module _ (a m b n : ℕ) (hm : m < 2 ^ 64) (hn : n < 2 ^ 64) where
         hi-held = held-least b n hn;
         lo-under = λ y hy e i l. inv-mono i y (most b n) l hy (most-lt b n hn) (under-most b n hn y e i l);
         under-hi = λ y hy e i l. inv-mono i w y l w-lt hy (least-under b n hn y e i l);
-        mask-lt = mask-lt (plus (minus v w) m) (minus (minus v w) n) (omega arith) (omega arith);
+        mask-lt = sub-mask-lt;
         mask-bit =
             mask-bit (plus (minus v w) m) (minus (minus v w) n) (minus (most a m) w) (minus v (most b n)) most-difference least-difference;
       }
