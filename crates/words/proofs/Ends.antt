@@ -6,7 +6,7 @@ use native.Mathlib.Nat.{div-eq-of-lt}
 use native.Mathlib.Decide.{decLt}
 use lib.Bits.{bitOr, bitXor, and-mask, and-le-l, and-le-r, and-zero-r, or-add-and, xor-lt, xor-shr, xor-zero-l}
 use lib.Count.{leadingZeros, leading-length}
-use lib.Pow.{pow-pos, pow-mono, shr-mono, shr-le}
+use lib.Pow.{high, ones-lt, ones-split, pow-pos, pow-mono, shr-mono, shr-le}
 use Rattle.words.specs.Ternary.{clear, Held}
 use Rattle.words.specs.Words.{Word}
 use Rattle.words.proofs.Bit.{bit, bit-le, bit-zero, bit-not, bit-xor, bit-high, bit-right, same-bits, le-bits}
@@ -98,6 +98,13 @@ held-between l h x hx lx xh = held-front (differing l h) l x (omega arith) (elim
     outside : 2 ^ 64 ≤ h → x / 2 ^ differing l h ≡ l / 2 ^ differing l h
     outside big =
         subst (λ (k : ℕ). x / 2 ^ k ≡ l / 2 ^ k) (sym (differing-over l h (omega arith) big)) (omega arith)
+
+-- the mask of those bits, as shifts make it
+pub ones-right : (z : ℕ) → z ≤ 64 → (2 ^ 64 - 1) / 2 ^ z ≡ 2 ^ (64 - z) - 1
+ones-right z h =
+    let whole : (64 - z) + z ≡ 64 = omega arith in
+    subst (λ (k : ℕ). (2 ^ k - 1) / 2 ^ z ≡ 2 ^ (64 - z) - 1) whole
+    (ap (λ (k : ℕ). k / 2 ^ z) (ones-split (64 - z) z) ∙ high (2 ^ (64 - z) - 1) z (ones-lt z))
 
 -- ---- and makes no word greater, or none smaller
 
