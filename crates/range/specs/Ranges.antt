@@ -8,7 +8,7 @@ use Rattle.std.specs.declared.option.Option.{Option}
 use Rattle.std.specs.declared.option.Option.the-variants.{Some, None}
 use Rattle.range.specs.declared.Range.{Range}
 use Rattle.tristate.specs.declared.Tristate.{Tristate}
-use Rattle.tristate.specs.Tristates.{lawful}
+use Rattle.tristate.specs.Tristates as bits
 
 -- ---- the reading: the two ends in order
 
@@ -100,7 +100,12 @@ abbrev pub without : Range → ℕ → Option Range
 without a w =
     cond (eqb (least a) w) (between (w + 1) (most a)) (cond (eqb (most a) w) (between (least a) (w - 1)) (Some (reading a)))
 
--- ---- the bits that the ends share: unknown is each from the highest in which they differ down
+-- ---- ranges and known bits
 
+-- the range from the least word of a tristate number to its greatest
+abbrev pub reach : Tristate → Range
+reach t = range (bits.known t) (bits.most t)
+
+-- the bits that the ends share: unknown is each from the highest in which they differ down
 abbrev pub span : Range → Tristate
-span r = lawful (least r) (2 ^ (64 - leadingZeros 64 (bitXor (least r) (most r))) - 1)
+span r = bits.lawful (least r) (2 ^ (64 - leadingZeros 64 (bitXor (least r) (most r))) - 1)

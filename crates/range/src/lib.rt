@@ -1,7 +1,7 @@
 //! Ranges of words.
 
 ghost use mathlib.Core.Path.{_≡_};
-ghost use Rattle.range.specs.Ranges.{above, below, between, common, conjunction, difference, disjunction, full, hull, least, most, noMore, onFrom, only, product, reading, single, span, sum, upTo, without};
+ghost use Rattle.range.specs.Ranges.{above, below, between, common, conjunction, difference, disjunction, full, hull, least, most, noMore, onFrom, only, product, reach, reading, single, span, sum, upTo, without};
 use tristate::Tristate;
 
 /// Any two words, which are the ends of the range, in either order.
@@ -58,7 +58,7 @@ impl Range {
     }
 
     /// The same words, with the ends in order.
-    pub fn ordered(self) -> Range
+    pub fn read(self) -> Range
         ensures { λ r. ⌜ r ≡ reading self ⌝ }
     {
         Range {
@@ -203,7 +203,17 @@ impl Range {
         } else if self.most() == word {
             self.below(word)
         } else {
-            Some(self.ordered())
+            Some(self.read())
+        }
+    }
+
+    /// From the least word that `bits` holds to the greatest.
+    pub fn reach(bits: Tristate) -> Range
+        ensures { λ r. ⌜ r ≡ reach bits ⌝ }
+    {
+        Range {
+            low: bits.known(),
+            high: bits.most(),
         }
     }
 

@@ -2,9 +2,8 @@
 //!
 //! The formulas are those of Linux's tnum.c.
 
-ghost use lib.Dec.{T};
 ghost use mathlib.Core.Path.{_≡_};
-ghost use Rattle.tristate.specs.Tristates.{common, conjunction, difference, disjunction, exclusion, full, known, most, only, product, quotient, shiftedLeft, shiftedRight, single, sum, unknown};
+ghost use Rattle.tristate.specs.Tristates.{common, conjunction, difference, disjunction, exclusion, full, known, most, only, product, quotient, reading, shiftedLeft, shiftedRight, single, sum, unknown};
 
 /// Any two words. The bits of `mask` are unknown, and the others are those of `value`: the bits
 /// that `value` and `mask` share count as unknown.
@@ -47,6 +46,16 @@ impl Tristate {
         ensures { λ r. ⌜ r ≡ unknown self ⌝ }
     {
         self.mask
+    }
+
+    /// The same words, with the bits that `value` and `mask` share out of `value`.
+    pub fn read(self) -> Tristate
+        ensures { λ r. ⌜ r ≡ reading self ⌝ }
+    {
+        Tristate {
+            value: self.known(),
+            mask: self.unknown(),
+        }
     }
 
     /// The greatest word held.
