@@ -5,7 +5,7 @@ use Rattle.std.specs.Orderings.{Decides}
 use Rattle.domain.specs.declared.domain.Domain.{Ghosts}
 use Rattle.domain.specs.declared.facts.Facts.{Facts}
 use Rattle.domain.specs.Facts.{Meets}
-use Rattle.domain.specs.Sets.{HoldsIn}
+use Rattle.words.specs.Sets.{HoldsIn}
 use Rattle.words.specs.declared.operation.Operation.{Operation}
 use Rattle.words.specs.declared.relation.Relation.{Relation}
 use Rattle.words.specs.declared.width.Width.{Width}

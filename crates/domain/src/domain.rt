@@ -3,7 +3,7 @@ ghost use mathlib.Core.Logic.{_⊎_};
 ghost use mathlib.Core.Path.{_≡_};
 ghost use Prim.Native.Nat.{ℕ, _<_, _^_};
 ghost use Rattle.domain.specs.Facts.{Meets};
-ghost use Rattle.domain.specs.Sets.{HoldsIn};
+ghost use Rattle.words.specs.Sets.{HoldsIn};
 ghost use Rattle.domain.specs.declared.facts.Facts.{Facts};
 ghost use Rattle.std.specs.Orderings.{Decides};
 ghost use Rattle.std.specs.declared.option.Option.{Option};

@@ -1,7 +1,7 @@
 //! Ranges of words.
 
 ghost use mathlib.Core.Path.{_≡_};
-ghost use Rattle.range.specs.Ranges.{above, below, between, common, conjunction, difference, disjunction, full, hull, least, most, noMore, onFrom, only, product, reach, reading, single, span, sum, upTo, without};
+ghost use Rattle.range.specs.Ranges.{above, below, between, common, conjunction, difference, disjunction, full, least, most, noMore, onFrom, only, product, reach, reading, single, span, sum, upTo, without};
 use tristate::Tristate;
 
 /// Any two words, which are the ends of the range, in either order.
@@ -136,16 +136,6 @@ impl Range {
         Range {
             low: self.least().max(other.least()),
             high: u64::MAX,
-        }
-    }
-
-    /// The least range that holds the words of both.
-    pub fn hull(self, other: Range) -> Range
-        ensures { λ r. ⌜ r ≡ hull self other ⌝ }
-    {
-        Range {
-            low: self.least().min(other.least()),
-            high: self.most().max(other.most()),
         }
     }
 

@@ -9,17 +9,19 @@ use lib.Dec.{eqb, ltb}
 use lib.Pow.{pow-mono, pow-pos}
 use borrow.Author.Tests.{both-ways, eqb-true, eq-eqb, ltb-true}
 use Rattle.std.proofs.shelf.Ways.{tells}
-use Rattle.std.specs.Options.{Cases as BySome}
 use Rattle.std.specs.declared.option.Option.{Option}
 use Rattle.std.specs.declared.option.Option.the-variants.{Some, None}
 use Rattle.tristate.specs.declared.Tristate.{Tristate}
-use Rattle.tristate.specs.Results.{applied, HoldsResults, Amount, Best, Smallest}
-use Rattle.tristate.specs.Tristates.{Holds, amount, common, conjunction, difference, disjunction, exclusion, front, full, hull, known, moved, most, only, single, sum, unknown}
+use Rattle.tristate.specs.Results.{applied, narrowed, Amount, Best, Smallest}
+use Rattle.tristate.specs.Tristates.{Holds, amount, common, conjunction, difference, disjunction, exclusion, front, full, hull, known, lawful, moved, most, only, reading, single, sum, unknown}
 use Rattle.words.specs.declared.operation.Operation.{Operation}
 use Rattle.words.specs.declared.operation.Operation.the-variants.{Add, Sub, Mul, Div, And, Or, Xor, Shl, Shr}
+use Rattle.words.specs.declared.relation.Relation.{Relation}
+use Rattle.words.specs.declared.relation.Relation.the-variants.{Equal, Unequal, Less, LessOrEqual, Greater, GreaterOrEqual}
+use Rattle.words.specs.Sets.{HoldsIn}
 use Rattle.words.specs.Ternary as ternary
 use Rattle.words.specs.Ternary.{clear, Held}
-use Rattle.words.specs.Words.{Word, Sticks, result, times, left, right}
+use Rattle.words.specs.Words.{Word, Related, Sticks, result, times, left, right}
 use Rattle.words.proofs.Bitwise.{and-sound, and-smallest, and-mask-lt, or-sound, or-smallest, or-mask-lt, xor-sound, xor-smallest, xor-mask-lt}
 use Rattle.words.proofs.Ends.{clear-none, held-above, held-below, held-front, held-full}
 use Rattle.words.proofs.Held.{clear-lt, held-least}
@@ -33,11 +35,18 @@ unknown-lt : (t : Tristate) → Word (unknown t)
 unknown-lt t = omega arith
 
 module _ (r : Tristate) (h : Word (r .mask)) (x : ℕ) where
-  holds-from : Held (r .value) (r .mask) x → Holds r x
+  pub holds-from : Held (r .value) (r .mask) x → Holds r x
   holds-from e = let same : r .mask % 2 ^ 64 ≡ r .mask = omega arith in subst (λ (k : ℕ). Held (r .value) k x) (sym same) e
 
   holds-to : Holds r x → Held (r .value) (r .mask) x
   holds-to e = let same : r .mask % 2 ^ 64 ≡ r .mask = omega arith in subst (λ (k : ℕ). Held (r .value) k x) same e
+
+-- a number written out holds what its bits and its mask hold
+pub lawful-holds : (v m x : ℕ) → Word m → Held v m x → Holds (lawful v m) x
+lawful-holds v m x h e = holds-from (lawful v m) h x (e ∙ sym (held-least v m h))
+
+pub reading-holds : (t : Tristate) (x : ℕ) → Holds t x → Holds (reading t) x
+reading-holds t x e = lawful-holds (t .value) (unknown t) x (unknown-lt t) e
 
 pub full-holds : (x : ℕ) → Holds full x
 full-holds x = held-full 0 x
@@ -183,10 +192,6 @@ hull-right a b x e =
     holds-from (hull a b) (either-mask-lt (a .value) (unknown a) (b .value) (unknown b) (unknown-lt a) (unknown-lt b)) x
     (either-right (a .value) (unknown a) (b .value) (unknown b) (unknown-lt a) (unknown-lt b) x e)
 
--- the words of a common part, none where there is none
-abbrev pub InBoth : Tristate → Tristate → ℕ → Type 0
-InBoth a b x = BySome (common a b) ⊥ (λ t. Holds t x)
-
 module _ (a b : Tristate) (x : ℕ) where
   abbrev apart : ℕ
   apart = clear (bitXor (known a) (known b)) (bitOr (unknown a) (unknown b))
@@ -197,13 +202,13 @@ module _ (a b : Tristate) (x : ℕ) where
   shared-lt : Word (shared .mask)
   shared-lt = both-mask-lt (a .value) (unknown a) (b .value) (unknown b) (unknown-lt a) (unknown-lt b)
 
-  pub common-keeps : Holds a x → Holds b x → InBoth a b x
+  pub common-keeps : Holds a x → Holds b x → HoldsIn Holds (common a b) x
   common-keeps ea eb =
-      subst (λ (t : Bool). BySome (cond t (Some shared) None) ⊥ (λ t. Holds t x))
+      subst (λ (t : Bool). HoldsIn Holds (cond t (Some shared) None) x)
       (sym (eq-eqb apart 0 (both-agree (a .value) (unknown a) (b .value) (unknown b) (unknown-lt a) (unknown-lt b) x ea eb)))
       (holds-from shared shared-lt x (both-keeps (a .value) (unknown a) (b .value) (unknown b) (unknown-lt a) (unknown-lt b) x ea eb))
 
-  inside : (t : Bool) → (t ≡ true → apart ≡ 0) → BySome (cond t (Some shared) None) ⊥ (λ t. Holds t x) → Holds a x × Holds b x
+  inside : (t : Bool) → (t ≡ true → apart ≡ 0) → HoldsIn Holds (cond t (Some shared) None) x → Holds a x × Holds b x
   inside true same e =
       let h = holds-to shared shared-lt x e in (
         both-left (a .value) (unknown a) (b .value) (unknown b) (unknown-lt a) (unknown-lt b) (same refl) x h,
@@ -211,8 +216,31 @@ module _ (a b : Tristate) (x : ℕ) where
       )
   inside false same e = absurd e
 
-  pub common-within : InBoth a b x → Holds a x × Holds b x
+  pub common-within : HoldsIn Holds (common a b) x → Holds a x × Holds b x
   common-within e = inside (eqb apart 0) (eqb-true apart 0) e
+
+-- ---- the relations
+
+equal-singles : (a b : Tristate) (x y : ℕ) → Word x → Word y → Holds a x → Holds b y
+    → (single a && (single b && eqb (known a) (known b))) ≡ true → x ≡ y
+equal-singles a b x y hx hy ea eb e =
+    let p = both-true (single a) (single b && eqb (known a) (known b)) e in
+    let q = both-true (single b) (eqb (known a) (known b)) (p .1) in
+    single-is a x hx (single-none a (p .0)) ea ∙ eqb-true (known a) (known b) (q .1) ∙ sym (single-is b y hy (single-none b (q .0)) eb)
+
+unless : (t : Bool) (r : Tristate) (x : ℕ) → (t ≡ true → ⊥) → Holds r x → HoldsIn Holds (cond t None (Some r)) x
+unless true r x h e = h refl
+unless false r x h e = e
+
+pub narrowed-holds : (rel : Relation) (a b : Tristate) (x y : ℕ) → Word x → Word y → Holds a x → Holds b y → Related rel x y
+    → HoldsIn Holds (narrowed rel a b) x
+narrowed-holds Equal a b x y hx hy ea eb r = common-keeps a b x ea (subst (λ (k : ℕ). Holds b k) (sym r) eb)
+narrowed-holds Unequal a b x y hx hy ea eb r =
+    unless (single a && (single b && eqb (known a) (known b))) (reading a) x (λ e. r (equal-singles a b x y hx hy ea eb e)) (reading-holds a x ea)
+narrowed-holds Less a b x y hx hy ea eb r = reading-holds a x ea
+narrowed-holds LessOrEqual a b x y hx hy ea eb r = reading-holds a x ea
+narrowed-holds Greater a b x y hx hy ea eb r = reading-holds a x ea
+narrowed-holds GreaterOrEqual a b x y hx hy ea eb r = reading-holds a x ea
 
 -- ---- the ends
 

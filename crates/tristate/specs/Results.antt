@@ -1,10 +1,16 @@
--- The answer to each operation, and what it is to be the smallest that is true.
+-- The answer to each operation and to each relation, and what it is to be the smallest that is true.
 use mathlib.Core.Path.{_≡_}
+use mathlib.Core.Bool.{cond, _&&_}
 use Prim.Native.Nat.{ℕ, _<_}
+use lib.Dec.{eqb}
+use Rattle.std.specs.declared.option.Option.{Option}
+use Rattle.std.specs.declared.option.Option.the-variants.{Some, None}
 use Rattle.tristate.specs.declared.Tristate.{Tristate}
-use Rattle.tristate.specs.Tristates.{Holds, sum, difference, conjunction, disjunction, exclusion, shiftedLeft, shiftedRight, product, quotient, known, unknown}
+use Rattle.tristate.specs.Tristates.{Holds, sum, difference, conjunction, disjunction, exclusion, shiftedLeft, shiftedRight, product, quotient, known, unknown, common, reading, single}
 use Rattle.words.specs.declared.operation.Operation.{Operation}
 use Rattle.words.specs.declared.operation.Operation.the-variants.{Add, Sub, Mul, Div, And, Or, Xor, Shl, Shr}
+use Rattle.words.specs.declared.relation.Relation.{Relation}
+use Rattle.words.specs.declared.relation.Relation.the-variants.{Equal, Unequal, Less, LessOrEqual, Greater, GreaterOrEqual}
 use Rattle.words.specs.Words.{Word, result}
 
 abbrev pub applied : Operation → Tristate → Tristate → Tristate
@@ -17,6 +23,15 @@ applied Or a b = disjunction a b
 applied Xor a b = exclusion a b
 applied Shl a b = shiftedLeft a b
 applied Shr a b = shiftedRight a b
+
+-- none for two equal single words under ≠; else ≠ and the orders leave it
+abbrev pub narrowed : Relation → Tristate → Tristate → Option Tristate
+narrowed Equal a b = common a b
+narrowed Unequal a b = cond (single a && (single b && eqb (known a) (known b))) None (Some (reading a))
+narrowed Less a b = Some (reading a)
+narrowed LessOrEqual a b = Some (reading a)
+narrowed Greater a b = Some (reading a)
+narrowed GreaterOrEqual a b = Some (reading a)
 
 -- `r` holds each result: what the machine makes of a word of `a` and a word of `b`
 abbrev pub HoldsResults : Operation → Tristate → Tristate → Tristate → Type 0
