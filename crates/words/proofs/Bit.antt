@@ -19,6 +19,10 @@ unfolding bit
 bit-le zero w = omega arith
 bit-le (suc i) w = bit-le i (w / 2)
 
+pub bit-first : (w : ℕ) → bit 0 w ≡ w % 2
+unfolding bit
+bit-first w = refl
+
 -- ---- two numbers of k bits with the same bits are the same
 
 pub same-bits : (k a b : ℕ) → a < 2 ^ k → b < 2 ^ k → ((i : ℕ) → i < k → bit i a ≡ bit i b) → a ≡ b
