@@ -58,7 +58,7 @@ pub impl Domain for Range as RangeDomain {
             Operation::Div | Operation::Shr => a.no_more(),
             Operation::And => a.and(b),
             Operation::Or => a.or(b),
-            Operation::Xor | Operation::Shl => Range::full(),
+            Operation::Xor | Operation::Shl => Self::any(),
         }
     }
 

@@ -101,7 +101,7 @@ pub impl Domain for Parity as ParityDomain {
     ghost absorbed = { absorbed };
 
     fn any() -> Parity {
-        Parity::Either
+        Parity::Even.join(Parity::Odd)
     }
 
     fn only(word: u64) -> Parity {
@@ -109,7 +109,7 @@ pub impl Domain for Parity as ParityDomain {
     }
 
     fn low(_width: Width) -> Parity {
-        Parity::Either
+        Self::any()
     }
 
     fn has(self, word: u64) -> bool {

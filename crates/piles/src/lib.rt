@@ -23,6 +23,12 @@ pub fn masked_sum<D: Domain>(a: D, b: D, mask: u64) -> D
     ensures named { λ r. ⌜ r ≡ maskedSum D·Domain a b mask ⌝ }
     ensures sound { λ r. ⌜ HoldsMaskedSums D·Domain a b mask r ⌝ }
 {
+    answer(a, b, mask)
+}
+
+fn answer<D: Domain>(a: D, b: D, mask: u64) -> D
+    ensures { λ r. ⌜ r ≡ maskedSum D·Domain a b mask ⌝ }
+{
     let sum = D::of(Operation::Add, a, b);
     D::of(Operation::And, sum, D::only(mask))
 }

@@ -2,13 +2,13 @@
 use mathlib.Core.Bool.{Bool, cond, _&&_}
 use Prim.Native.Nat.{ℕ, _+_, _-_, _*_, _^_, _≤_, min, max}
 use lib.Bits.{bitXor}
-use lib.Count.{leadingZeros}
 use lib.Dec.{eqb, leb, ltb}
 use Rattle.std.specs.declared.option.Option.{Option}
 use Rattle.std.specs.declared.option.Option.the-variants.{Some, None}
 use Rattle.range.specs.declared.Range.{Range}
 use Rattle.tristate.specs.declared.Tristate.{Tristate}
 use Rattle.tristate.specs.Tristates as bits
+use Rattle.words.specs.Words.{lengthOf}
 
 -- ---- the reading: the two ends in order
 
@@ -108,4 +108,4 @@ reach t = range (bits.known t) (bits.most t)
 
 -- the bits that the ends share: unknown is each from the highest in which they differ down
 abbrev pub span : Range → Tristate
-span r = bits.lawful (least r) (2 ^ (64 - leadingZeros 64 (bitXor (least r) (most r))) - 1)
+span r = bits.lawful (least r) (2 ^ lengthOf (bitXor (least r) (most r)) - 1)

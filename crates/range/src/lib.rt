@@ -1,6 +1,8 @@
 //! Ranges of words.
 
 ghost use mathlib.Core.Path.{_≡_};
+ghost use Prim.Native.Nat.{_-_, _^_};
+ghost use Rattle.words.specs.Words.{lengthOf};
 ghost use Rattle.range.specs.Ranges.{above, below, between, common, conjunction, difference, disjunction, full, least, most, noMore, onFrom, only, product, reach, reading, single, span, sum, upTo, without};
 use tristate::Tristate;
 
@@ -22,13 +24,21 @@ fn between(low: u64, high: u64) -> Option<Range>
     }
 }
 
+/// Every bit up to the highest that is set.
+fn filled(word: u64) -> u64
+    ensures { λ r. ⌜ r ≡ 2 ^ lengthOf word - 1 ⌝ }
+{
+    let leading = word.leading_zeros();
+    if leading < 64 { u64::MAX >> leading } else { 0 }
+}
+
 impl Range {
     /// Every word.
     pub fn full() -> Range
         ensures { λ r. ⌜ r ≡ full ⌝ }
     {
         Range {
-            low: 0,
+            low: u64::MIN,
             high: u64::MAX,
         }
     }
@@ -103,9 +113,9 @@ impl Range {
         ensures { λ r. ⌜ r ≡ product self other ⌝ }
     {
         match self.most().checked_mul(other.most()) {
-            Some(high) => Range {
+            Some(most) => Range {
                 low: self.least() * other.least(),
-                high,
+                high: most,
             },
             None => Range::full(),
         }
@@ -115,10 +125,8 @@ impl Range {
     pub fn no_more(self) -> Range
         ensures { λ r. ⌜ r ≡ noMore self ⌝ }
     {
-        Range {
-            low: 0,
-            high: self.most(),
-        }
+        let high = self.most();
+        Range { low: 0, high }
     }
 
     pub fn and(self, other: Range) -> Range
@@ -143,10 +151,9 @@ impl Range {
     pub fn common(self, other: Range) -> Option<Range>
         ensures { λ r. ⌜ r ≡ common self other ⌝ }
     {
-        between(
-            self.least().max(other.least()),
-            self.most().min(other.most()),
-        )
+        let low = self.least().max(other.least());
+        let high = self.most().min(other.most());
+        between(low, high)
     }
 
     /// The words below `end`.
@@ -211,8 +218,7 @@ impl Range {
     pub fn span(self) -> Tristate
         ensures { λ r. ⌜ r ≡ span self ⌝ }
     {
-        let shared = (self.least() ^ self.most()).leading_zeros();
-        let mask = if shared < 64 { u64::MAX >> shared } else { 0 };
+        let mask = filled(self.least() ^ self.most());
         Tristate {
             value: self.least() & !mask,
             mask,

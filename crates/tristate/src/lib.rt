@@ -38,7 +38,7 @@ impl Tristate {
     pub fn known(self) -> u64
         ensures { λ r. ⌜ r ≡ known self ⌝ }
     {
-        self.value & !self.mask
+        self.value & !self.unknown()
     }
 
     /// The bits that are unknown.
@@ -62,7 +62,8 @@ impl Tristate {
     pub fn most(self) -> u64
         ensures { λ r. ⌜ r ≡ most self ⌝ }
     {
-        self.known() | self.unknown()
+        let least = self.known();
+        least | self.unknown()
     }
 
     /// Is just one word held?
@@ -80,8 +81,8 @@ impl Tristate {
         // the greatest: it takes every carry that any sum takes
         let sigma = s.wrapping_add(self.unknown()).wrapping_add(other.unknown());
         // so a carry into a bit can differ only where these two differ
-        let chi = sigma ^ s;
-        let mask = chi | (self.unknown() | other.unknown());
+        let carries = sigma ^ s;
+        let mask = carries | (self.unknown() | other.unknown());
         Tristate {
             value: s & !mask,
             mask,
@@ -96,8 +97,8 @@ impl Tristate {
         let alpha = d.wrapping_add(self.unknown());
         let beta = d.wrapping_sub(other.unknown());
         // a borrow from a bit can differ only where these two differ
-        let chi = alpha ^ beta;
-        let mask = chi | (self.unknown() | other.unknown());
+        let borrows = alpha ^ beta;
+        let mask = borrows | (self.unknown() | other.unknown());
         Tristate {
             value: d & !mask,
             mask,

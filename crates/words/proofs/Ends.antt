@@ -5,10 +5,10 @@ use native.Mathlib.Omega.{arith}
 use native.Mathlib.Nat.{div-eq-of-lt}
 use native.Mathlib.Decide.{decLt}
 use lib.Bits.{bitOr, bitXor, and-mask, and-le-l, and-le-r, and-zero-r, or-add-and, xor-lt, xor-shr, xor-zero-l}
-use lib.Count.{leadingZeros, leading-length}
+use lib.Count.{leadingZeros, leading-le}
 use lib.Pow.{high, ones-lt, ones-split, pow-pos, pow-mono, shr-mono, shr-le}
 use Rattle.words.specs.Ternary.{clear, Held}
-use Rattle.words.specs.Words.{Word}
+use Rattle.words.specs.Words.{Word, lengthIn, lengthOf}
 use Rattle.words.proofs.Bit.{bit, bit-le, bit-zero, bit-not, bit-xor, bit-high, bit-right, same-bits, le-bits}
 use Rattle.words.proofs.Held.{least, most, clear-lt, bit-clear, bit-held, held, least-under, under-most, most-lt}
 
@@ -59,45 +59,59 @@ unlike-none : (k a b : ℕ) → a < 2 ^ k → b < 2 ^ k → bitXor a b ≡ 0 →
 unlike-none k a b ha hb e =
     same-bits k a b ha hb (λ i l. omega (arith, bit-xor i a b, ap (bit i) e, bit-zero i, bit-le i a, bit-le i b))
 
--- how many low bits there are up to the highest in which l and h differ
-abbrev pub differing : ℕ → ℕ → ℕ
-differing l h = 64 - leadingZeros 64 (bitXor l h)
-
-leading-over : (k n : ℕ) → 2 ^ k ≤ n → leadingZeros k n ≡ 0
+-- the length is what the leading zeros leave
+pub length-zeros : (k w : ℕ) → lengthIn k w ≡ k - leadingZeros k w
 unfolding leadingZeros
-leading-over zero n h = refl
-leading-over (suc k) zero h = omega (arith, pow-pos k)
-leading-over (suc k) (suc n) h = leading-over k (suc n / 2) (omega arith)
+length-zeros zero w = refl
+length-zeros (suc k) zero = omega arith
+length-zeros (suc k) (suc w) = omega (arith, length-zeros k (suc w / 2), leading-le k (suc w / 2))
 
--- above them they agree
-agree-above : (l h : ℕ) → Word l → Word h → l / 2 ^ differing l h ≡ h / 2 ^ differing l h
-agree-above l h hl hh =
-    let s = leading-length 64 (bitXor l h) (xor-lt 64 l h hl hh) in
-    let at : differing l h ≡ s .0 = omega (arith, s .1) in
-    subst (λ (k : ℕ). l / 2 ^ k ≡ h / 2 ^ k) (sym at)
-    (unlike-none 64 (l / 2 ^ s .0) (h / 2 ^ s .0) (omega (arith, shr-le l (s .0))) (omega (arith, shr-le h (s .0)))
-    (sym (xor-shr l h (s .0)) ∙ div-eq-of-lt (s .2)))
+pub length-le : (w : ℕ) → lengthOf w ≤ 64
+length-le w = omega (arith, length-zeros 64 w)
 
--- an end that is no word differs in every bit
-differing-over : (l h : ℕ) → Word l → 2 ^ 64 ≤ h → differing l h ≡ 64
-differing-over l h hl hh =
-    let high : bitXor l h / 2 ^ 64 ≡ h / 2 ^ 64 =
-    xor-shr l h 64 ∙ ap (λ (k : ℕ). bitXor k (h / 2 ^ 64)) (div-eq-of-lt hl) ∙ xor-zero-l (h / 2 ^ 64) in
-    omega (arith, leading-over 64 (bitXor l h) (omega arith))
+length-above : (k w : ℕ) → w < 2 ^ k → w < 2 ^ lengthIn k w
+length-above zero w h = h
+length-above (suc k) zero h = omega arith
+length-above (suc k) (suc w) h =
+    let half : suc w / 2 < 2 ^ lengthIn k (suc w / 2) = length-above k (suc w / 2) (omega arith) in
+    let whole : suc w < 2 ^ suc (lengthIn k (suc w / 2)) = omega arith in
+    whole
 
--- every word between two ends has the bits that they share
-pub held-between : (l h x : ℕ) → Word x → l ≤ x → x ≤ h → Held l (2 ^ differing l h - 1) x
-held-between l h x hx lx xh = held-front (differing l h) l x (omega arith) (elim (decLt h (2 ^ 64)) [ yes small ↦ inside small | no big ↦ outside (omega arith) ])
-  where
-    inside : Word h → x / 2 ^ differing l h ≡ l / 2 ^ differing l h
-    inside small =
-        let low : l / 2 ^ differing l h ≤ x / 2 ^ differing l h = shr-mono (differing l h) lx in
-        let high : x / 2 ^ differing l h ≤ h / 2 ^ differing l h = shr-mono (differing l h) xh in
-        omega (arith, agree-above l h (omega arith) small)
+length-over : (k w : ℕ) → 2 ^ k ≤ w → lengthIn k w ≡ k
+length-over zero w h = refl
+length-over (suc k) zero h = omega (arith, pow-pos k)
+length-over (suc k) (suc w) h = ap suc (length-over k (suc w / 2) (omega arith))
 
-    outside : 2 ^ 64 ≤ h → x / 2 ^ differing l h ≡ l / 2 ^ differing l h
-    outside big =
-        subst (λ (k : ℕ). x / 2 ^ k ≡ l / 2 ^ k) (sym (differing-over l h (omega arith) big)) (omega arith)
+-- two ends agree above the bits in which they differ
+module _ (l h : ℕ) where
+  abbrev differing : ℕ
+  differing = lengthOf (bitXor l h)
+
+  agree-above : Word l → Word h → l / 2 ^ differing ≡ h / 2 ^ differing
+  agree-above hl hh =
+      unlike-none 64 (l / 2 ^ differing) (h / 2 ^ differing) (omega (arith, shr-le l differing)) (omega (arith, shr-le h differing))
+      (sym (xor-shr l h differing) ∙ div-eq-of-lt (length-above 64 (bitXor l h) (xor-lt 64 l h hl hh)))
+
+  -- an end that is no word differs in every bit
+  differing-over : Word l → 2 ^ 64 ≤ h → differing ≡ 64
+  differing-over hl hh =
+      let high : bitXor l h / 2 ^ 64 ≡ h / 2 ^ 64 =
+      xor-shr l h 64 ∙ ap (λ (k : ℕ). bitXor k (h / 2 ^ 64)) (div-eq-of-lt hl) ∙ xor-zero-l (h / 2 ^ 64) in
+      length-over 64 (bitXor l h) (omega arith)
+
+  -- so every word between them has the bits that they share
+  pub held-between : (x : ℕ) → Word x → l ≤ x → x ≤ h → Held l (2 ^ differing - 1) x
+  held-between x hx lx xh =
+      held-front differing l x (length-le (bitXor l h)) (elim (decLt h (2 ^ 64)) [ yes small ↦ inside small | no big ↦ outside (omega arith) ])
+    where
+      inside : Word h → x / 2 ^ differing ≡ l / 2 ^ differing
+      inside small =
+          let low : l / 2 ^ differing ≤ x / 2 ^ differing = shr-mono differing lx in
+          let high : x / 2 ^ differing ≤ h / 2 ^ differing = shr-mono differing xh in
+          omega (arith, agree-above (omega arith) small)
+
+      outside : 2 ^ 64 ≤ h → x / 2 ^ differing ≡ l / 2 ^ differing
+      outside big = subst (λ (k : ℕ). x / 2 ^ k ≡ l / 2 ^ k) (sym (differing-over (omega arith) big)) (omega arith)
 
 -- the mask of those bits, as shifts make it
 pub ones-right : (z : ℕ) → z ≤ 64 → (2 ^ 64 - 1) / 2 ^ z ≡ 2 ^ (64 - z) - 1

@@ -1,6 +1,6 @@
 -- Words, and what the machine makes of two of them: the result of each operation, where it has none, and the comparisons.
 use mathlib.Core.Path.{_≡_}
-use Prim.Native.Nat.{ℕ, _+_, _-_, _*_, _/_, _%_, _^_, _<_, _≤_}
+use Prim.Native.Nat.{ℕ, zero, suc, _+_, _-_, _*_, _/_, _%_, _^_, _<_, _≤_}
 use lib.Bits.{bitAnd, bitOr, bitXor}
 use Rattle.words.specs.declared.operation.Operation.{Operation}
 use Rattle.words.specs.declared.operation.Operation.the-variants.{Add, Sub, Mul, Div, And, Or, Xor, Shl, Shr}
@@ -60,3 +60,14 @@ Related Less a b = a < b
 Related LessOrEqual a b = a ≤ b
 Related Greater a b = b < a
 Related GreaterOrEqual a b = b ≤ a
+
+-- ---- the length of a word: how many bits there are up to the highest that is set
+
+-- among the k low ones
+abbrev pub lengthIn : ℕ → ℕ → ℕ
+lengthIn zero w = 0
+lengthIn (suc k) zero = 0
+lengthIn (suc k) (suc w) = suc (lengthIn k (suc w / 2))
+
+abbrev pub lengthOf : ℕ → ℕ
+lengthOf w = lengthIn 64 w

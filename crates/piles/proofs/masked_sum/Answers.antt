@@ -1,5 +1,5 @@
 -- From the laws of whichever domain it is.
-use mathlib.Core.Path.{_≡_, sym, subst}
+use mathlib.Core.Path.{sym, subst}
 use Prim.Native.Nat.{ℕ}
 use native.Mathlib.Omega.{arith}
 use Rattle.words.specs.declared.operation.Operation.the-variants.{Add, And}
@@ -15,10 +15,9 @@ holds-sums g a b m hm x y hx hy ha hb =
 
 pub returns : need.returns
 returns g c =
-    let is : c .of .result ≡ maskedSum (g .D·Domain) (c .args .a) (c .args .b) (c .args .mask) = cc in
     record {
-      named = is;
+      named = c .answer .ensures;
       sound =
-          subst (λ (r : g .D .Denot). HoldsMaskedSums (g .D·Domain) (c .args .a) (c .args .b) (c .args .mask) r) (sym is)
+          subst (λ (r : g .D .Denot). HoldsMaskedSums (g .D·Domain) (c .args .a) (c .args .b) (c .args .mask) r) (sym (c .answer .ensures))
           (holds-sums g (c .args .a) (c .args .b) (c .args .mask) (omega arith));
     }
