@@ -32,11 +32,17 @@ pub impl Domain for Range as RangeDomain {
     ghost absorbed = { rangeAbsorbed };
 
     fn any() -> Range {
-        Range::full()
+        Range {
+            low: 0,
+            high: u64::MAX,
+        }
     }
 
     fn only(word: u64) -> Range {
-        Range::single(word)
+        Range {
+            low: word,
+            high: word,
+        }
     }
 
     fn low(width: Width) -> Range {

@@ -49,11 +49,17 @@ pub impl Domain for Tristate as TristateDomain {
     ghost absorbed = { bitsAbsorbed };
 
     fn any() -> Tristate {
-        Tristate::full()
+        Tristate {
+            value: 0,
+            mask: u64::MAX,
+        }
     }
 
     fn only(word: u64) -> Tristate {
-        Tristate::single(word)
+        Tristate {
+            value: word,
+            mask: 0,
+        }
     }
 
     fn low(width: Width) -> Tristate {

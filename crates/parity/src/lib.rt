@@ -5,6 +5,8 @@ ghost use Rattle.parity.specs.Parities.{Stands, absorbed, applied, common, con
 ghost use Rattle.parity.specs.declared.Parity.the-variants.{Either};
 use domain::Domain;
 use domain::Facts;
+use domain::RangeDomain;
+use domain::TristateDomain;
 use range::Range;
 use tristate::Tristate;
 use words::Operation;
@@ -148,11 +150,11 @@ pub impl Domain for Parity as ParityDomain {
         let bits = match self {
             Parity::Even => Tristate { value: 0, mask: !1 },
             Parity::Odd => Tristate { value: 1, mask: !1 },
-            Parity::Either => Tristate::full(),
+            Parity::Either => Tristate::any(),
         };
         Facts {
             bits,
-            range: Range::full(),
+            range: Range::any(),
         }
     }
 

@@ -3,7 +3,7 @@
 ghost use mathlib.Core.Path.{_≡_};
 ghost use Prim.Native.Nat.{_-_, _^_};
 ghost use Rattle.words.specs.Words.{lengthOf};
-ghost use Rattle.range.specs.Ranges.{above, below, between, common, conjunction, difference, disjunction, full, least, most, noMore, onFrom, only, product, reach, reading, single, span, sum, upTo, without};
+ghost use Rattle.range.specs.Ranges.{above, below, between, common, conjunction, difference, disjunction, full, least, most, noMore, onFrom, product, reach, reading, single, span, sum, upTo, without};
 use tristate::Tristate;
 
 /// Any two words, which are the ends of the range, in either order.
@@ -34,22 +34,12 @@ fn filled(word: u64) -> u64
 
 impl Range {
     /// Every word.
-    pub fn full() -> Range
+    fn full() -> Range
         ensures { λ r. ⌜ r ≡ full ⌝ }
     {
         Range {
-            low: u64::MIN,
+            low: 0,
             high: u64::MAX,
-        }
-    }
-
-    /// One word.
-    pub fn single(word: u64) -> Range
-        ensures { λ r. ⌜ r ≡ only word ⌝ }
-    {
-        Range {
-            low: word,
-            high: word,
         }
     }
 

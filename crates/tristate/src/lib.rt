@@ -15,7 +15,7 @@ pub struct Tristate {
 
 impl Tristate {
     /// Every word.
-    pub fn full() -> Tristate
+    fn full() -> Tristate
         ensures { λ r. ⌜ r ≡ full ⌝ }
     {
         Tristate {
@@ -25,7 +25,7 @@ impl Tristate {
     }
 
     /// One word.
-    pub fn single(word: u64) -> Tristate
+    fn single(word: u64) -> Tristate
         ensures { λ r. ⌜ r ≡ only word ⌝ }
     {
         Tristate {
