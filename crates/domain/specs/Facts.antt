@@ -1,7 +1,5 @@
 -- What is told of a word: known bits and a range.
-use mathlib.Core.Bool.{cond}
 use Prim.Native.Nat.{ℕ}
-use Rattle.std.specs.declared.option.Option.{Option}
 use Rattle.std.specs.Options.{valueOr}
 use Rattle.domain.specs.declared.facts.Facts.{Facts}
 use Rattle.range.specs.declared.Range.{Range}

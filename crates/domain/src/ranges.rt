@@ -1,4 +1,3 @@
-ghost use mathlib.Core.Path.{_≡_};
 ghost use Rattle.domain.specs.Answers.{rangeAbsorbed, rangeTold};
 ghost use Rattle.range.specs.Answers.{applied, narrowed};
 ghost use Rattle.range.specs.Ranges.{Within, front, full, hull, member, only};

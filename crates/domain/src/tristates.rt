@@ -1,6 +1,6 @@
 ghost use mathlib.Core.Path.{_≡_};
 ghost use Rattle.domain.specs.Answers.{bitsAbsorbed, bitsTold};
-ghost use Rattle.tristate.specs.Results.{Smallest, applied, narrowed};
+ghost use Rattle.tristate.specs.Answers.{Smallest, applied, narrowed};
 ghost use Rattle.tristate.specs.Tristates.{Holds, front, full, hull, member, only};
 ghost use Rattle.words.specs.Widths.{bitsOf};
 use super::domain::Domain;
@@ -11,6 +11,7 @@ use words::Operation;
 use words::Relation;
 use words::Width;
 
+/// The formula of the operation.
 fn computed(operation: Operation, a: Tristate, b: Tristate) -> Tristate
     ensures { λ r. ⌜ r ≡ applied operation a b ⌝ }
 {

@@ -1,14 +1,11 @@
 -- What the answers are for: each holds what it has to hold.
-use mathlib.Core.Path.{_≡_, refl, sym, ap, _∙_, subst}
+use mathlib.Core.Path.{_≡_, refl}
 use mathlib.Core.Bool.{Bool, true, false, cond}
-use Prim.Native.Nat.{ℕ, _+_, _-_, _*_, _/_, _%_, _^_, _<_, _≤_, min}
+use Prim.Native.Nat.{ℕ, _+_, _%_, min}
 use native.Mathlib.Omega.{arith}
 use lib.Bits.{bitAnd, bitXor, and-mask, and-step, xor-add-and}
 use lib.Dec.{eqb}
 use borrow.Author.Tests.{eqb-true, eqb-false}
-use Rattle.std.specs.declared.option.Option.{Option}
-use Rattle.domain.specs.declared.facts.Facts.{Facts}
-use Rattle.domain.specs.Facts.{Meets}
 use Rattle.parity.specs.declared.Parity.{Parity}
 use Rattle.parity.specs.declared.Parity.the-variants.{Even, Odd, Either}
 use Rattle.parity.specs.Parities.{Stands, applied, common, conjunction, lowest, lowestBit, parityOf, sum}
@@ -19,7 +16,7 @@ use Rattle.words.specs.declared.operation.Operation.{Operation}
 use Rattle.words.specs.declared.operation.Operation.the-variants.{Add, Sub, Mul, Div, And, Or, Xor, Shl, Shr}
 use Rattle.words.specs.Sets.{HoldsIn}
 use Rattle.words.specs.Words.{Word, Sticks, result}
-use Rattle.words.proofs.Bit.{bit, bit-first, bit-le}
+use Rattle.words.proofs.Bit.{bit-first}
 use Rattle.words.proofs.Held.{bit-clear, bit-held}
 
 -- ---- the operations

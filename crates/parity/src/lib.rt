@@ -1,7 +1,7 @@
 //! Parities as a domain: one that is made of neither known bits nor ranges.
 
 ghost use mathlib.Core.Path.{_≡_};
-ghost use Rattle.parity.specs.Parities.{Stands, absorbed, applied, common, conjunction, joined, lowest, lowestBit, member, narrowed, parityOf, sum, told};
+ghost use Rattle.parity.specs.Parities.{Stands, absorbed, applied, common, conjunction, joined, lowest, member, narrowed, parityOf, sum, told};
 ghost use Rattle.parity.specs.declared.Parity.the-variants.{Either};
 use domain::Domain;
 use domain::Facts;

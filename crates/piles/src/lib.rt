@@ -26,6 +26,7 @@ pub fn masked_sum<D: Domain>(a: D, b: D, mask: u64) -> D
     answer(a, b, mask)
 }
 
+/// What `masked_sum` answers, step by step.
 fn answer<D: Domain>(a: D, b: D, mask: u64) -> D
     ensures { λ r. ⌜ r ≡ maskedSum D·Domain a b mask ⌝ }
 {

@@ -1,8 +1,6 @@
 -- The laws of a product, from those of its parts.
-use mathlib.Core.Path.{_≡_, refl}
 use mathlib.Core.Logic.{_⊎_, inl, inr}
-use mathlib.Core.Bool.{Bool}
-use Prim.Native.Nat.{ℕ, _<_, _^_}
+use Prim.Native.Nat.{ℕ}
 use Rattle.std.proofs.shelf.Ways.{decides-and}
 use Rattle.std.specs.Orderings.{Decides}
 use Rattle.std.specs.Options.{valueOr}
@@ -14,10 +12,8 @@ use Rattle.domain.specs.Facts.{Meets, combined}
 use Rattle.domain.specs.Lawful.{Lawful}
 use Rattle.product.specs.declared.Product.{Product}
 use Rattle.product.specs.Products.{Both, Exactly, absorbed, applied, joined, kept, member, met, narrowed, pair, paired, reduced, reducedIn, told}
-use Rattle.range.specs.declared.Range.{Range}
 use Rattle.range.specs.Ranges as ranges
 use Rattle.range.proofs.Laws as range-laws
-use Rattle.tristate.specs.declared.Tristate.{Tristate}
 use Rattle.tristate.specs.Tristates as bits
 use Rattle.tristate.proofs.Laws as bits-laws
 use Rattle.words.specs.declared.operation.Operation.{Operation}

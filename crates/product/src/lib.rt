@@ -29,6 +29,7 @@ impl<A: Domain, B: Domain> Product<A, B> {
         self.sharpened()
     }
 
+    /// What `reduce` answers, step by step.
     fn sharpened(self) -> Option<Product<A, B>>
         ensures { λ r. ⌜ r ≡ reduced A·Domain B·Domain self ⌝ }
     {

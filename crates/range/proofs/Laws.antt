@@ -1,10 +1,10 @@
 -- What the formulas are for: each answer holds what it has to hold.
 use mathlib.Core.Path.{_≡_, refl, sym, subst}
 use mathlib.Core.Bool.{Bool, true, false, cond}
-use Prim.Native.Nat.{ℕ, _+_, _-_, _*_, _/_, _%_, _^_, _<_, _≤_, max, min}
+use Prim.Native.Nat.{ℕ, _+_, _-_, _*_, _^_, _≤_, max, min}
 use native.Mathlib.Nat.{div-le-self}
 use native.Mathlib.Omega.{arith}
-use lib.Bits.{bitAnd, bitOr, bitXor, and-le-l, and-le-r}
+use lib.Bits.{bitXor, and-le-l, and-le-r}
 use lib.Dec.{eqb, leb, ltb}
 use lib.Pow.{pow-mono, pow-pos, shr-le}
 use borrow.Author.Tests.{eqb-true, le-leb, leb-true, ltb-true}

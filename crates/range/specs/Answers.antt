@@ -1,7 +1,7 @@
 -- A range's answer to each operation and to each relation.
 use mathlib.Core.Bool.{cond}
 use Rattle.std.specs.declared.option.Option.{Option}
-use Rattle.std.specs.declared.option.Option.the-variants.{Some, None}
+use Rattle.std.specs.declared.option.Option.the-variants.{Some}
 use Rattle.range.specs.declared.Range.{Range}
 use Rattle.range.specs.Ranges.{least, most, reading, full, single, sum, difference, product, noMore, conjunction, disjunction, common, below, upTo, above, onFrom, without}
 use Rattle.words.specs.declared.operation.Operation.{Operation}

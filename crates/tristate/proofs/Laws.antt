@@ -1,7 +1,7 @@
 -- What the formulas are for: each answer holds what it has to hold, and where it can be the smallest it is.
 use mathlib.Core.Path.{_≡_, refl, sym, ap, _∙_, subst}
 use mathlib.Core.Bool.{Bool, true, false, cond, _&&_}
-use Prim.Native.Nat.{ℕ, _-_, _/_, _%_, _^_, _<_, _≤_}
+use Prim.Native.Nat.{ℕ, _/_, _%_, _^_, _<_, _≤_}
 use native.Mathlib.Nat.{div-eq-of-lt}
 use native.Mathlib.Omega.{arith}
 use lib.Bits.{bitAnd, bitOr, bitXor}
@@ -9,10 +9,9 @@ use lib.Dec.{eqb, ltb}
 use lib.Pow.{pow-mono, pow-pos}
 use borrow.Author.Tests.{both-ways, eqb-true, eq-eqb, ltb-true}
 use Rattle.std.proofs.shelf.Ways.{tells}
-use Rattle.std.specs.declared.option.Option.{Option}
 use Rattle.std.specs.declared.option.Option.the-variants.{Some, None}
 use Rattle.tristate.specs.declared.Tristate.{Tristate}
-use Rattle.tristate.specs.Results.{applied, narrowed, Amount, Best, Smallest}
+use Rattle.tristate.specs.Answers.{applied, narrowed, Amount, Best, Smallest}
 use Rattle.tristate.specs.Tristates.{Holds, amount, common, conjunction, difference, disjunction, exclusion, front, full, hull, known, lawful, moved, most, only, reading, single, sum, unknown}
 use Rattle.words.specs.declared.operation.Operation.{Operation}
 use Rattle.words.specs.declared.operation.Operation.the-variants.{Add, Sub, Mul, Div, And, Or, Xor, Shl, Shr}

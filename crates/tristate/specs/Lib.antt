@@ -1,2 +1,2 @@
-pub mod Results
+pub mod Answers
 pub mod Tristates

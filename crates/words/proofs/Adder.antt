@@ -3,11 +3,10 @@
 -- carry into every bit at once: (least x, lo) and (most x, hi).
 use mathlib.Core.Path.{_≡_, refl, sym, ap, _∙_}
 use mathlib.Core.Logic.{_≢_, _⊎_, inl, inr}
-use Prim.Native.Nat.{ℕ, _+_, _-_, _%_, _^_, _<_, _≤_, max}
+use Prim.Native.Nat.{ℕ, _+_, _%_, _^_, _<_, _≤_, max}
 use native.Mathlib.Omega.{arith}
 use native.Mathlib.Nat.{le-refl}
 use native.Mathlib.Decide.{ℕ-discrete}
-use lib.Bits.{bitOr}
 use Rattle.words.specs.Ternary.{clear, Held, Sound, Smallest}
 use Rattle.words.proofs.Bit.{bit, bit-le, bit-or, carry, carry-le, carry-mono, carry-same}
 use Rattle.words.proofs.Held.{most, turned, clear-lt, bit-clear, bit-held, held, held-least, held-most, most-lt, least-under, under-most, turned-lt, bit-turned, bit-turned-other, held-turned, unknown, within}

@@ -1,11 +1,11 @@
 -- and, or and exclusive or of tristate numbers: sound, and smallest.
-use mathlib.Core.Path.{_≡_, refl, sym, ap, _∙_}
-use Prim.Native.Nat.{ℕ, _+_, _-_, _%_, _^_, _<_, _≤_, min, max}
+use mathlib.Core.Path.{_≡_, refl, _∙_}
+use Prim.Native.Nat.{ℕ, _+_, _-_, _%_, _^_, _<_, min, max}
 use native.Mathlib.Omega.{arith}
-use lib.Bits.{bitAnd, bitOr, bitXor, and-lt, or-lt, xor-lt}
+use lib.Bits.{bitAnd, bitOr, bitXor, and-lt, or-lt}
 use Rattle.words.specs.Ternary.{clear, Held, Sound, Smallest}
 use Rattle.words.proofs.Bit.{bit, bit-le, bit-and, bit-or, bit-xor}
-use Rattle.words.proofs.Held.{least, most, clear-lt, bit-clear, bit-held, held, held-least, held-most, most-lt, unknown, within}
+use Rattle.words.proofs.Held.{most, clear-lt, bit-clear, bit-held, held, held-least, held-most, most-lt, unknown, within}
 
 module _ (a m b n : ℕ) (hm : m < 2 ^ 64) (hn : n < 2 ^ 64) where
   abbrev v : ℕ

@@ -1,6 +1,6 @@
 -- Known bits and order: the least and the greatest word held, single words, and the bits that two ends share.
 use mathlib.Core.Path.{_≡_, refl, sym, ap, _∙_, subst}
-use Prim.Native.Nat.{ℕ, zero, suc, _+_, _-_, _*_, _/_, _%_, _^_, _<_, _≤_}
+use Prim.Native.Nat.{ℕ, zero, suc, _+_, _-_, _/_, _^_, _<_, _≤_}
 use native.Mathlib.Omega.{arith}
 use native.Mathlib.Nat.{div-eq-of-lt}
 use native.Mathlib.Decide.{decLt}
@@ -9,8 +9,8 @@ use lib.Count.{leadingZeros, leading-le}
 use lib.Pow.{high, ones-lt, ones-split, pow-pos, pow-mono, shr-mono, shr-le}
 use Rattle.words.specs.Ternary.{clear, Held}
 use Rattle.words.specs.Words.{Word, lengthIn, lengthOf}
-use Rattle.words.proofs.Bit.{bit, bit-le, bit-zero, bit-not, bit-xor, bit-high, bit-right, same-bits, le-bits}
-use Rattle.words.proofs.Held.{least, most, clear-lt, bit-clear, bit-held, held, least-under, under-most, most-lt}
+use Rattle.words.proofs.Bit.{bit, bit-le, bit-zero, bit-not, bit-xor, bit-right, same-bits, le-bits}
+use Rattle.words.proofs.Held.{least, most, clear-lt, held, least-under, under-most, most-lt}
 
 -- ---- the ends of what is held
 

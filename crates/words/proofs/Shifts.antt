@@ -1,10 +1,9 @@
 -- Shifts of tristate numbers: sound, and smallest. One law for every operation that moves bits.
-use mathlib.Core.Path.{_≡_, refl, sym, ap, _∙_, subst}
-use mathlib.Core.Logic.{_≢_, _⊎_, inl, inr}
-use Prim.Native.Nat.{ℕ, zero, suc, _+_, _-_, _*_, _/_, _%_, _^_, _<_, _≤_}
+use mathlib.Core.Path.{_≡_, refl, sym, ap, _∙_}
+use mathlib.Core.Logic.{_⊎_, inl, inr}
+use Prim.Native.Nat.{ℕ, _+_, _-_, _*_, _^_, _<_}
 use native.Mathlib.Omega.{arith}
 use native.Mathlib.Decide.{decLt}
-use lib.Bits.{bitOr}
 use lib.Pow.{shr-le}
 use Rattle.words.specs.Ternary.{clear, Held, Sound₁, Smallest₁}
 use Rattle.words.specs.Words.{left, right}

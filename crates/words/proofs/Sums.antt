@@ -4,7 +4,7 @@ use Prim.Native.Nat.{ℕ, _+_, _-_, _%_, _^_, _<_, _≤_, max}
 use native.Mathlib.Omega.{arith}
 use native.Mathlib.Nat.{add-zero, le-refl}
 use lib.Bits.{bitOr, bitXor, or-lt, xor-lt}
-use Rattle.words.specs.Ternary.{clear, Held, Sound, Smallest}
+use Rattle.words.specs.Ternary.{clear, Sound, Smallest}
 use Rattle.words.specs.Words.{plus, minus}
 use Rattle.words.proofs.Adder.{Adds, Extremes, adder-sound, adder-smallest}
 use Rattle.words.proofs.Bit.{bit, bit-le, bit-or, bit-xor, bit-mod, bit-not, bit-add, carry}

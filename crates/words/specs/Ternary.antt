@@ -1,7 +1,7 @@
 -- Two numbers `a` and `m` as a word of which some bits are known: those of `m` are unknown, and the others are those of `a`.
 -- Only the 64 low bits count.
 use mathlib.Core.Path.{_≡_}
-use Prim.Native.Nat.{ℕ, _-_, _^_, _<_}
+use Prim.Native.Nat.{ℕ, _-_, _^_}
 use lib.Bits.{bitAnd}
 use Rattle.words.specs.Words.{Word}
 

@@ -1,7 +1,6 @@
 -- Eight examples worked by hand, one line each.
 use Prim.Native.Nat.{ℕ, _-_, _^_}
 use Rattle.std.specs.declared.option.Option.the-variants.{Some, None}
-use Rattle.range.specs.declared.Range.{Range}
 use Rattle.range.specs.Ranges.{range}
 use Rattle.tristate.specs.declared.Tristate.{Tristate}
 use Rattle.worked.specs.declared.Worked.{Worked}

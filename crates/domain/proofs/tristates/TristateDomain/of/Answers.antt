@@ -1,7 +1,7 @@
 -- The answer is the formula's, which is the smallest.
 use mathlib.Core.Path.{sym, subst}
 use Rattle.tristate.specs.declared.Tristate.{Tristate}
-use Rattle.tristate.specs.Results.{Smallest}
+use Rattle.tristate.specs.Answers.{Smallest}
 use Rattle.tristate.proofs.Laws.{smallest}
 use Rattle.domain.proofs.tristates.TristateDomain.of.Needs as need
 
