@@ -1,1 +1,4 @@
+pub mod Sets
+pub mod Ternary
 pub mod Widths
+pub mod Words

@@ -1,4 +1,5 @@
 ghost use mathlib.Core.Path.{_≡_};
+ghost use Prim.Native.Nat.{_-_, _^_};
 ghost use Rattle.words.specs.Widths.{bitsOf, bytesOf};
 
 /// How many bits of a word a load or a store moves.
@@ -30,6 +31,18 @@ impl Width {
             Width::W16 => 2,
             Width::W32 => 4,
             Width::W64 => 8,
+        }
+    }
+
+    /// The greatest word of so many bits.
+    pub fn most(self) -> u64
+        ensures { λ r. ⌜ r ≡ 2 ^ bitsOf self - 1 ⌝ }
+    {
+        match self {
+            Width::W8 => 0xff,
+            Width::W16 => 0xffff,
+            Width::W32 => 0xffff_ffff,
+            Width::W64 => u64::MAX,
         }
     }
 }

@@ -1,0 +1,9 @@
+pub mod Adder
+pub mod Bit
+pub mod Bitwise
+pub mod Ends
+pub mod Held
+pub mod Parts
+pub mod Results
+pub mod Shifts
+pub mod Sums
