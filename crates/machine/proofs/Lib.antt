@@ -1,3 +1,5 @@
 pub mod Counts
 pub mod Written
 pub mod Layouts
+pub mod Validity
+pub mod Moving
