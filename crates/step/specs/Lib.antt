@@ -1,0 +1,4 @@
+pub mod Causes
+pub mod Needs
+pub mod Rows
+pub mod Transfer
