@@ -1,4 +1,5 @@
 pub mod Adder
+pub mod Aligned
 pub mod Bit
 pub mod Bitwise
 pub mod Ends
