@@ -19,7 +19,7 @@ use Rattle.machine.specs.Valid.{operandOk, jumpOk, itemOk, codeOk, isRet, head
 
 operand-from : (s : Operand) → operandOk s ≡ true → ValidOperand s
 operand-from (Register k) e = ltb-true _ _ e
-operand-from (Constant c) e = tt
+operand-from (Constant c) e = ltb-true _ _ e
 
 jump-from : (n k to : ℕ) → jumpOk n k to ≡ true → (k < to) × (to < n)
 jump-from n k to e = let h = and-parts (ltb k to) (ltb to n) e in (ltb-true _ _ (h .0), ltb-true _ _ (h .1))

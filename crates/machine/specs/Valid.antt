@@ -2,11 +2,12 @@
 use mathlib.Core.Path.{_≡_}
 use mathlib.Core.Bool.{Bool, true, false, cond, _&&_}
 use mathlib.Core.List.{List, [], _∷_}
-use Prim.Native.Nat.{ℕ, zero, suc, _+_, _-_, _<_, _≤_}
+use Prim.Native.Nat.{ℕ, zero, suc, _-_, _^_, _<_, _≤_}
 use lib.Dec.{ltb, leb}
 use lib.ListN.{getD, drop}
 use Rattle.std.specs.declared.option.Option.{Option}
 use Rattle.std.specs.declared.option.Option.the-variants.{Some, None}
+use Rattle.words.specs.Words.{Word}
 use Rattle.rule.specs.declared.record.Item.{Item}
 use Rattle.rule.specs.declared.record.Item.the-variants.{Blank, Buffer, Mov, Alu, Load, Store, Jump, Branch, Ret}
 use Rattle.rule.specs.declared.record.Operand.{Operand}
@@ -16,9 +17,10 @@ use Rattle.rule.specs.Records.{blank}
 use Rattle.machine.specs.declared.layout.Layout.{Layout}
 use Rattle.machine.specs.Tables.{isBuffer, isBlank, bufferCount, codeLength, behind, itemAt, sizeIn, writableAt}
 
+-- a register is one of the eight, and a constant a word
 abbrev pub operandOk : Operand → Bool
 operandOk (Register k) = ltb k 8
-operandOk (Constant c) = true
+operandOk (Constant c) = ltb c (2 ^ 64)
 
 -- a jump from instruction k of n goes to a later one
 abbrev pub jumpOk : ℕ → ℕ → ℕ → Bool
@@ -83,7 +85,7 @@ layoutOf p = cond (tableOk p) (Some (record { buffers = bufferCount p; instructi
 
 abbrev pub ValidOperand : Operand → Type 0
 ValidOperand (Register k) = k < 8
-ValidOperand (Constant c) = Unit {0}
+ValidOperand (Constant c) = Word c
 
 abbrev pub ValidItem : List Record → ℕ → ℕ → Item → Type 0
 ValidItem p n k (Mov t s) = (t < 8) × ValidOperand s
