@@ -1,2 +1,3 @@
 pub mod Shows
 pub mod Fits
+pub mod Items
