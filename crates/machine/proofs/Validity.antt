@@ -52,8 +52,9 @@ code-from p cs n zero k e h = absurd (omega arith)
 code-from p cs n (suc j) k e h =
     let a = and-parts (itemOk p n j (getD cs j blank .item)) (codeOk p cs n j) e in
     elim (cases-eq k j) [
-      inl same ↦ subst (λ m. ValidItem p n m (getD cs m blank .item)) (sym same) (item-from p n j (getD cs j blank .item) (a .0))
-    | inr ne ↦ code-from p cs n j k (a .1) (omega arith) ]
+      | inl same ↦ subst (λ m. ValidItem p n m (getD cs m blank .item)) (sym same) (item-from p n j (getD cs j blank .item) (a .0))
+      | inr ne ↦ code-from p cs n j k (a .1) (omega arith)
+    ]
 
 pub valid-from : (p : List Record) → tableOk p ≡ true → Valid p
 valid-from p e =

@@ -4,11 +4,11 @@ ghost use Prim.Native.Nat.{_≤_, _<_};
 ghost use lib.ListN.{length};
 ghost use Rattle.machine.specs.Tables.{isBuffer, isBlank, bufferCount, filledCount, behind, writableAt, codeLength};
 ghost use Rattle.machine.specs.Valid.{operandOk, jumpOk, itemOk, codeOk, isRet, sizeOk, headsOk, blanksOk, countsOk, restOk, layoutOf};
+use super::layout::Layout;
 use rule::Item;
 use rule::Mode;
 use rule::Operand;
 use rule::Record;
-use super::layout::Layout;
 
 fn is_buffer(item: Item) -> bool
     ensures { λ r. ⌜ r ≡ isBuffer item ⌝ }
@@ -105,7 +105,10 @@ fn is_writable(table: &[Record], buffer: usize) -> bool
         return false;
     }
     match table[buffer].item {
-        Item::Buffer { size: _, mode: Mode::ReadWrite } => true,
+        Item::Buffer {
+            size: _,
+            mode: Mode::ReadWrite,
+        } => true,
         _ => false,
     }
 }
@@ -123,13 +126,32 @@ fn fits_item(table: &[Record], buffers: usize, n: usize, k: usize, item: Item) -
 {
     match item {
         Item::Mov { target, source } => target < 8 && fits_operand(source),
-        Item::Alu { operation: _, target, operand } => target < 8 && fits_operand(operand),
-        Item::Load { width: _, target, buffer, index } => target < 8 && (buffer < buffers && fits_operand(index)),
-        Item::Store { width: _, buffer, index, source } => {
+        Item::Alu {
+            operation: _,
+            target,
+            operand,
+        } => target < 8 && fits_operand(operand),
+        Item::Load {
+            width: _,
+            target,
+            buffer,
+            index,
+        } => target < 8 && (buffer < buffers && fits_operand(index)),
+        Item::Store {
+            width: _,
+            buffer,
+            index,
+            source,
+        } => {
             (buffer < buffers && is_writable(table, buffer)) && (fits_operand(index) && source < 8)
         }
         Item::Jump { to } => fits_jump(n, k, to),
-        Item::Branch { condition: _, left, right, to } => left < 8 && (fits_operand(right) && fits_jump(n, k, to)),
+        Item::Branch {
+            condition: _,
+            left,
+            right,
+            to,
+        } => left < 8 && (fits_operand(right) && fits_jump(n, k, to)),
         Item::Ret => true,
         Item::Buffer { size: _, mode: _ } | Item::Blank => false,
     }

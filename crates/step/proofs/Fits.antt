@@ -63,9 +63,9 @@ module _ {D : Type 0} (d : Ghosts D) where
         ⊎-elim
         (λ same. record { word = w; is = cond-true (eqb k t) _ _ (eq-eqb k t same); fits = hw; held = subst (λ x. d .holds x w) (sym (cond-true (eqb k t) _ _ (eq-eqb k t same))) hv })
         (λ ne.
-          let off = ne-eqb k t ne in
-          let old = fit k l (sym (cond-false (eqb k t) _ _ off) ∙ e) in
-          record { word = old .word; is = cond-false (eqb k t) _ _ off ∙ old .is; fits = old .fits; held = subst (λ x. d .holds x (old .word)) (sym (cond-false (eqb k t) _ _ off)) (old .held) })
+        let off = ne-eqb k t ne in
+        let old = fit k l (sym (cond-false (eqb k t) _ _ off) ∙ e) in
+        record { word = old .word; is = cond-false (eqb k t) _ _ off ∙ old .is; fits = old .fits; held = subst (λ x. d .holds x (old .word)) (sym (cond-false (eqb k t) _ _ off)) (old .held) })
         (cases-eq k t)
 
     -- a patch of a register that is set, with a value that holds its word, keeps a value that fits
@@ -75,9 +75,9 @@ module _ {D : Type 0} (d : Ghosts D) where
         ⊎-elim
         (λ same. let h = new x refl in record { word = h .word; is = ap r same ∙ h .is; fits = h .fits; held = subst (λ y. d .holds y (h .word)) (sym (cond-true (eqb k (x .register)) _ _ (eq-eqb _ _ same))) (h .held) })
         (λ ne.
-          let off = ne-eqb k (x .register) ne in
-          let h = old (sym (cond-false (eqb k (x .register)) _ _ off) ∙ e) in
-          record { word = h .word; is = h .is; fits = h .fits; held = subst (λ y. d .holds y (h .word)) (sym (cond-false (eqb k (x .register)) _ _ off)) (h .held) })
+        let off = ne-eqb k (x .register) ne in
+        let h = old (sym (cond-false (eqb k (x .register)) _ _ off) ∙ e) in
+        record { word = h .word; is = h .is; fits = h .fits; held = subst (λ y. d .holds y (h .word)) (sym (cond-false (eqb k (x .register)) _ _ off)) (h .held) })
         (cases-eq k (x .register))
 
     own-patch : (l : ℕ) (x : D) (a : ℕ) → Word a → r l ≡ Some a → d .holds x a → (z : Patch D) → Some (patch l x) ≡ Some z → Has d (z .value) (r (z .register))

@@ -1,8 +1,8 @@
 ghost use mathlib.Core.Path.{_≡_};
 ghost use Rattle.step.specs.Needs.{divisorCause, shiftCause, accessCause};
+use super::cause::Cause;
 use domain::Facts;
 use words::Width;
-use super::cause::Cause;
 
 /// A divisor has to be shown above 0: by a bit that is known to be set, or by its least.
 pub(crate) fn judge_divisor(facts: Facts) -> Option<Cause>

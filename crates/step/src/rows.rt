@@ -6,13 +6,13 @@ ghost use Rattle.machine.specs.Machine.{registerIn, reads};
 ghost use Rattle.machine.specs.Valid.{ValidOperand};
 ghost use Rattle.std.specs.Options.{Cases};
 ghost use Rattle.step.specs.Rows.{cell, amount, firstUnset, reported, concerned, doubted, firstReport, earlier, ReadsValid};
+use super::cause::Cause;
+use super::mark::Mark;
+use super::report::Report;
 use domain::Domain;
 use domain::Facts;
 use rule::Item;
 use rule::Operand;
-use super::cause::Cause;
-use super::mark::Mark;
-use super::report::Report;
 
 pub(crate) fn cell_at<D: Domain>(row: &[D], register: u8) -> D
     requires { ⌜ length (now row) ≡ 8 ⌝ ∗ ⌜ register < 8 ⌝ }
@@ -86,12 +86,22 @@ fn concern(operand: Operand) -> Option<u8>
 }
 
 /// The report of an operand whose facts do not show the need.
-pub(crate) fn doubt<D: Domain>(line: usize, row: &[D], operand: Operand, cause: Option<Cause>) -> Option<Report>
+pub(crate) fn doubt<D: Domain>(
+    line: usize,
+    row: &[D],
+    operand: Operand,
+    cause: Option<Cause>,
+) -> Option<Report>
     requires { ⌜ length (now row) ≡ 8 ⌝ ∗ ⌜ ValidOperand operand ⌝ }
     ensures { λ r. ⌜ r ≡ doubted D·Domain line (now (row .entry)) operand cause ⌝ }
 {
     match cause {
-        Some(cause) => Some(report_of(line, cause, concern(operand), amount_of(row, operand).facts())),
+        Some(cause) => Some(report_of(
+            line,
+            cause,
+            concern(operand),
+            amount_of(row, operand).facts(),
+        )),
         None => None,
     }
 }
@@ -120,10 +130,29 @@ pub(crate) fn first_unset(mark: Mark, item: Item) -> Option<u8>
 {
     match item {
         Item::Mov { target: _, source } => unset_operand(mark, source),
-        Item::Alu { operation: _, target, operand } => first_of(unset_register(mark, target), unset_operand(mark, operand)),
-        Item::Load { width: _, target: _, buffer: _, index } => unset_operand(mark, index),
-        Item::Store { width: _, buffer: _, index, source } => first_of(unset_operand(mark, index), unset_register(mark, source)),
-        Item::Branch { condition: _, left, right, to: _ } => first_of(unset_register(mark, left), unset_operand(mark, right)),
+        Item::Alu {
+            operation: _,
+            target,
+            operand,
+        } => first_of(unset_register(mark, target), unset_operand(mark, operand)),
+        Item::Load {
+            width: _,
+            target: _,
+            buffer: _,
+            index,
+        } => unset_operand(mark, index),
+        Item::Store {
+            width: _,
+            buffer: _,
+            index,
+            source,
+        } => first_of(unset_operand(mark, index), unset_register(mark, source)),
+        Item::Branch {
+            condition: _,
+            left,
+            right,
+            to: _,
+        } => first_of(unset_register(mark, left), unset_operand(mark, right)),
         Item::Ret => unset_register(mark, 0),
         Item::Jump { to: _ } | Item::Buffer { size: _, mode: _ } | Item::Blank => None,
     }

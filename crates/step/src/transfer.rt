@@ -8,14 +8,6 @@ ghost use Rattle.machine.specs.Tables.{sizeAt};
 ghost use Rattle.machine.specs.Valid.{ValidOperand, ValidItem};
 ghost use Rattle.step.specs.Rows.{cell, amount, unchanged as noChange, patched, goesOn, shown, ReadsValid, RegistersValid};
 ghost use Rattle.step.specs.Transfer.{aluCause, indexCause, judged, opposite as oppositeOf, mirrored, sideOf, isSame, patchTo, branchSide, transfer};
-use domain::Domain;
-use rule::Condition;
-use rule::Item;
-use rule::Operand;
-use rule::Record;
-use words::Operation;
-use words::Relation;
-use words::Width;
 use super::cause::Cause;
 use super::judge::judge_access;
 use super::judge::judge_divisor;
@@ -30,6 +22,14 @@ use super::rows::cell_at;
 use super::rows::doubt;
 use super::rows::first_report;
 use super::rows::first_unset;
+use domain::Domain;
+use rule::Condition;
+use rule::Item;
+use rule::Operand;
+use rule::Record;
+use words::Operation;
+use words::Relation;
+use words::Width;
 
 // ── whether there is a report ──
 
@@ -39,7 +39,12 @@ fn alu_cause<D: Domain>(operation: Operation, b: D) -> Option<Cause>
     match operation {
         Operation::Div => judge_divisor(b.facts()),
         Operation::Shl | Operation::Shr => judge_shift(b.facts()),
-        Operation::Add | Operation::Sub | Operation::Mul | Operation::And | Operation::Or | Operation::Xor => None,
+        Operation::Add
+        | Operation::Sub
+        | Operation::Mul
+        | Operation::And
+        | Operation::Or
+        | Operation::Xor => None,
     }
 }
 
@@ -62,17 +67,48 @@ fn index_cause<D: Domain>(table: &[Record], buffer: usize, width: Width, index: 
 }
 
 /// At most one report of an instruction: the first cause that holds of it.
-fn judge<D: Domain>(table: &[Record], line: usize, item: Item, row: &[D], mark: Mark) -> Option<Report>
+fn judge<D: Domain>(
+    table: &[Record],
+    line: usize,
+    item: Item,
+    row: &[D],
+    mark: Mark,
+) -> Option<Report>
     requires { ⌜ length (now row) ≡ 8 ⌝ ∗ ⌜ ReadsValid item ⌝ }
     ensures { λ r. ⌜ r ≡ judged D·Domain (now (table .entry)) line item (now (row .entry)) mark ⌝ }
 {
     let unset = first_unset(mark, item);
     let other = match item {
-        Item::Alu { operation, target: _, operand } => {
-            doubt(line, row, operand, alu_cause(operation, amount_of(row, operand)))
+        Item::Alu {
+            operation,
+            target: _,
+            operand,
+        } => {
+            doubt(
+                line,
+                row,
+                operand,
+                alu_cause(operation, amount_of(row, operand)),
+            )
         }
-        Item::Load { width, target: _, buffer, index } | Item::Store { width, buffer, index, source: _ } => {
-            doubt(line, row, index, index_cause(table, buffer, width, amount_of(row, index)))
+        Item::Load {
+            width,
+            target: _,
+            buffer,
+            index,
+        }
+        | Item::Store {
+            width,
+            buffer,
+            index,
+            source: _,
+        } => {
+            doubt(
+                line,
+                row,
+                index,
+                index_cause(table, buffer, width, amount_of(row, index)),
+            )
         }
         _ => None,
     };
@@ -124,10 +160,19 @@ fn mov<D: Domain>(report: Option<Report>, target: u8, source: Operand, row: &[D]
     requires { ⌜ length (now row) ≡ 8 ⌝ ∗ ⌜ ValidOperand source ⌝ }
     ensures { λ r. ⌜ r ≡ goesOn report (patched target (shown report (amount D·Domain (now (row .entry)) source) (D·Domain .every))) ⌝ }
 {
-    go_on(report, change_one(target, choose(report, amount_of(row, source))))
+    go_on(
+        report,
+        change_one(target, choose(report, amount_of(row, source))),
+    )
 }
 
-fn alu<D: Domain>(report: Option<Report>, operation: Operation, target: u8, operand: Operand, row: &[D]) -> Outcome<D>
+fn alu<D: Domain>(
+    report: Option<Report>,
+    operation: Operation,
+    target: u8,
+    operand: Operand,
+    row: &[D],
+) -> Outcome<D>
     requires { ⌜ length (now row) ≡ 8 ⌝ ∗ ⌜ target < 8 ⌝ ∗ ⌜ ValidOperand operand ⌝ }
     ensures { λ r. ⌜ r ≡ goesOn report (patched target (shown report (D·Domain .applied operation (cell D·Domain (now (row .entry)) target) (amount D·Domain (now (row .entry)) operand)) (D·Domain .every))) ⌝ }
 {
@@ -226,7 +271,14 @@ fn branch_side<D: Domain>(
     }
 }
 
-fn branch<D: Domain>(report: Option<Report>, condition: Condition, left: u8, right: Operand, to: usize, row: &[D]) -> Outcome<D>
+fn branch<D: Domain>(
+    report: Option<Report>,
+    condition: Condition,
+    left: u8,
+    right: Operand,
+    to: usize,
+    row: &[D],
+) -> Outcome<D>
     requires { ⌜ length (now row) ≡ 8 ⌝ ∗ ⌜ left < 8 ⌝ ∗ ⌜ ValidOperand right ⌝ }
     ensures { λ r. ⌜ r ≡ record { report = report; next = branchSide D·Domain report (oppositeOf (relationOf condition)) left right (now (row .entry)); to = to; jump = branchSide D·Domain report (relationOf condition) left right (now (row .entry)); answer = None } ⌝ }
 {
@@ -241,7 +293,12 @@ fn branch<D: Domain>(report: Option<Report>, condition: Condition, left: u8, rig
 }
 
 /// What goes nowhere and returns nothing, but for what is given.
-fn stop<D: Domain>(report: Option<Report>, to: usize, jump: Option<Change<D>>, answer: Option<D>) -> Outcome<D>
+fn stop<D: Domain>(
+    report: Option<Report>,
+    to: usize,
+    jump: Option<Change<D>>,
+    answer: Option<D>,
+) -> Outcome<D>
     ensures { λ r. ⌜ r ≡ record { report = report; next = None; to = to; jump = jump; answer = answer } ⌝ }
 {
     Outcome {
@@ -265,7 +322,13 @@ fn ret<D: Domain>(report: Option<Report>, row: &[D]) -> Outcome<D>
 
 /// What the instruction makes of its row and mark. Public only because crates divide the check: the row has eight
 /// values, and the instruction's registers are among the eight.
-pub fn carry<D: Domain>(table: &[Record], line: usize, item: Item, row: &[D], mark: Mark) -> Outcome<D>
+pub fn carry<D: Domain>(
+    table: &[Record],
+    line: usize,
+    item: Item,
+    row: &[D],
+    mark: Mark,
+) -> Outcome<D>
     requires row { ⌜ length (now row) ≡ 8 ⌝ }
     requires registers { ⌜ RegistersValid item ⌝ }
     ensures { λ r. ⌜ r ≡ transfer D·Domain (now (table .entry)) line item (now (row .entry)) mark ⌝ }
@@ -273,11 +336,30 @@ pub fn carry<D: Domain>(table: &[Record], line: usize, item: Item, row: &[D], ma
     let report = judge(table, line, item, row, mark);
     match item {
         Item::Mov { target, source } => mov(report, target, source, row),
-        Item::Alu { operation, target, operand } => alu(report, operation, target, operand, row),
-        Item::Load { width, target, buffer: _, index: _ } => go_on(report, change_one(target, D::low(width))),
-        Item::Store { width: _, buffer: _, index: _, source: _ } => go_on(report, change_none()),
+        Item::Alu {
+            operation,
+            target,
+            operand,
+        } => alu(report, operation, target, operand, row),
+        Item::Load {
+            width,
+            target,
+            buffer: _,
+            index: _,
+        } => go_on(report, change_one(target, D::low(width))),
+        Item::Store {
+            width: _,
+            buffer: _,
+            index: _,
+            source: _,
+        } => go_on(report, change_none()),
         Item::Jump { to } => stop(report, to, Some(change_none()), None),
-        Item::Branch { condition, left, right, to } => branch(report, condition, left, right, to, row),
+        Item::Branch {
+            condition,
+            left,
+            right,
+            to,
+        } => branch(report, condition, left, right, to, row),
         Item::Ret => ret(report, row),
         Item::Buffer { size: _, mode: _ } | Item::Blank => stop(report, 0, None, None),
     }

@@ -16,7 +16,7 @@ pub aligned : (k w m v : ℕ) → k ≤ 64 → m < 2 ^ 64 → clear w m ≡ v �
 aligned k w m v le fits e a b =
     same-bits k (w % 2 ^ k) 0 (mod-lt w (pow-pos k)) (pow-pos k)
     (λ i l.
-      let known : bit i w - bit i m ≡ 0 = sym (bit-clear i w m (omega arith) fits) ∙ ap (bit i) e ∙ low-bit k i v l a in
-      let unknown : bit i m ≡ 0 = low-bit k i m l b in
-      let none : bit i w ≡ 0 = omega arith in
-      bit-mod k i w l ∙ none ∙ sym (bit-zero i))
+    let known : bit i w - bit i m ≡ 0 = sym (bit-clear i w m (omega arith) fits) ∙ ap (bit i) e ∙ low-bit k i v l a in
+    let unknown : bit i m ≡ 0 = low-bit k i m l b in
+    let none : bit i w ≡ 0 = omega arith in
+    bit-mod k i w l ∙ none ∙ sym (bit-zero i))
