@@ -1,0 +1,2 @@
+pub mod Sending
+mod Ways
