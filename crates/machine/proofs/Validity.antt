@@ -2,20 +2,22 @@
 use mathlib.Core.Path.{_≡_, refl, sym, subst, ap, _∙_}
 use mathlib.Core.Bool.{Bool, true, false, _&&_}
 use mathlib.Core.List.{List}
-use mathlib.Core.Logic.{inl, inr}
+use mathlib.Core.Logic.{inl, inr, ⊎-elim}
 use Prim.Native.Nat.{ℕ, zero, suc, _+_, _-_, _<_, _≤_}
 use native.Mathlib.Omega.{arith}
 use lib.Dec.{ltb, leb}
 use lib.ListN.{getD}
-use Rattle.std.proofs.shelf.Tests.{and-parts, ltb-true, leb-true, cases-eq, both-ways}
+use Rattle.std.proofs.shelf.Tests.{and-parts, ltb-true, leb-true, cases-eq, cases-bool, cond-true, cond-false, both-ways}
+use Rattle.std.specs.declared.option.Option.{Option}
 use Rattle.rule.specs.declared.record.Item.{Item}
 use Rattle.rule.specs.declared.record.Item.the-variants.{Blank, Buffer, Mov, Alu, Load, Store, Jump, Branch, Ret}
 use Rattle.rule.specs.declared.record.Operand.{Operand}
 use Rattle.rule.specs.declared.record.Operand.the-variants.{Register, Constant}
 use Rattle.rule.specs.declared.record.Record.{Record}
 use Rattle.rule.specs.Records.{blank}
+use Rattle.machine.specs.declared.layout.Layout.{Layout}
 use Rattle.machine.specs.Tables.{bufferCount, codeLength, behind, itemAt, writableAt}
-use Rattle.machine.specs.Valid.{operandOk, jumpOk, itemOk, codeOk, isRet, headsOk, countsOk, restOk, tableOk, ValidOperand, ValidItem, Valid}
+use Rattle.machine.specs.Valid.{operandOk, jumpOk, itemOk, codeOk, isRet, headsOk, countsOk, restOk, tableOk, layoutOf, ValidOperand, ValidItem, Valid, ValidIn}
 
 operand-from : (s : Operand) → operandOk s ≡ true → ValidOperand s
 operand-from (Register k) e = ltb-true _ _ e
@@ -74,3 +76,11 @@ valid-from p e =
       items = λ k l. code-from p cs n n k (g .0) l;
       last = g .1;
     }
+
+-- the answer that the definition gives is some layout for valid tables alone
+pub valid-in : (p : List Record) (o : Option Layout) → o ≡ layoutOf p → ValidIn o p
+valid-in p o e =
+    ⊎-elim
+    (λ passes. subst (λ l. ValidIn l p) (sym (e ∙ cond-true (tableOk p) _ _ passes)) (valid-from p passes))
+    (λ fails. subst (λ l. ValidIn l p) (sym (e ∙ cond-false (tableOk p) _ _ fails)) tt)
+    (cases-bool (tableOk p))

@@ -105,3 +105,8 @@ pub record Valid (p : List Record) : Type 0 where
   pub heads : headsOk p ≡ true
   pub items : (k : ℕ) → k < codeLength p → ValidItem p (codeLength p) k (itemAt p k)
   pub last : isRet (itemAt p (codeLength p - 1)) ≡ true
+
+-- where a layout is found, the table is valid
+abbrev pub ValidIn : Option Layout → List Record → Type 0
+ValidIn None p = Unit {0}
+ValidIn (Some l) p = Valid p

@@ -3,7 +3,7 @@ ghost use mathlib.Core.Bool.{true, false, _&&_};
 ghost use Prim.Native.Nat.{_≤_, _<_};
 ghost use lib.ListN.{length};
 ghost use Rattle.machine.specs.Tables.{isBuffer, isBlank, bufferCount, filledCount, behind, writableAt, codeLength};
-ghost use Rattle.machine.specs.Valid.{operandOk, jumpOk, itemOk, codeOk, isRet, sizeOk, headsOk, blanksOk, countsOk, restOk, layoutOf};
+ghost use Rattle.machine.specs.Valid.{operandOk, jumpOk, itemOk, codeOk, isRet, sizeOk, headsOk, blanksOk, countsOk, restOk, layoutOf, ValidIn};
 use super::layout::Layout;
 use rule::Item;
 use rule::Mode;
@@ -199,7 +199,8 @@ fn fits_rest(table: &[Record], buffers: usize, code: &[Record], n: usize) -> boo
 
 /// How many buffers and instructions the rule in a table has; nothing where the table holds no rule.
 pub fn layout_of(table: &[Record]) -> Option<Layout>
-    ensures { λ r. ⌜ r ≡ layoutOf (now (table .entry)) ⌝ }
+    ensures value { λ r. ⌜ r ≡ layoutOf (now (table .entry)) ⌝ }
+    ensures valid { λ r. ⌜ ValidIn r (now (table .entry)) ⌝ }
 {
     let buffers = count_buffers(table);
     let code = &table[buffers..];
