@@ -25,7 +25,7 @@ use Rattle.machine.specs.Valid.{isRet, ValidItem, Valid}
 none-some : (o : Option ℕ) (x : ℕ) → o ≡ None → o ≡ Some x → ⊥
 none-some o x a b = let z : _≡_ {A = ℕ} 0 1 = cc in omega arith
 
-some-same : (o : Option ℕ) (x y : ℕ) → o ≡ Some x → o ≡ Some y → x ≡ y
+pub some-same : (o : Option ℕ) (x y : ℕ) → o ≡ Some x → o ≡ Some y → x ≡ y
 some-same o x y a b = cc
 
 -- each register of an operand that has a value is set

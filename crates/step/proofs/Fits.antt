@@ -17,6 +17,7 @@ use Rattle.rule.specs.declared.record.Operand.{Operand}
 use Rattle.rule.specs.declared.record.Operand.the-variants.{Register, Constant}
 use Rattle.machine.specs.Machine.{Regs, put, value, registerIn}
 use Rattle.machine.specs.Valid.{ValidOperand}
+use Rattle.machine.proofs.Moving.{some-same}
 use Rattle.step.specs.declared.mark.Mark.{Mark}
 use Rattle.step.specs.declared.outcome.Change.{Change}
 use Rattle.step.specs.declared.outcome.Patch.{Patch}
@@ -42,9 +43,6 @@ FitsChange d row m c q = (k : ℕ) → k < 8 → changedSet c k (isSet m k) ≡ 
 abbrev pub FitsIn : {D : Type 0} → Ghosts D → List D → Mark → Option (Change D) → Regs → Type 0
 FitsIn d row m None q = ⊥
 FitsIn d row m (Some c) q = FitsChange d row m c q
-
-some-same : (o : Option ℕ) (x y : ℕ) → o ≡ Some x → o ≡ Some y → x ≡ y
-some-same o x y a b = cc
 
 module _ {D : Type 0} (d : Ghosts D) where
   pub has-fits : {v : D} {o : Option ℕ} → Has d v o → (w : ℕ) → o ≡ Some w → Word w
