@@ -1,5 +1,5 @@
 -- A machine that can move is not stuck, and moves forward.
-use Rattle.std.proofs.Common.{◌≡◌, ℕ, ◌+◌, ◌-◌, ◌%◌, ◌<◌, ◌≤◌, true, false, ◌⊎◌, List, [], ◌∷◌, ◌++◌, Some, None, Option, sym, refl, ap, ◌∙◌, subst, inl, inr, ⊎_elim, arith}
+use Rattle.std.proofs.Common.{◌≡◌, ℕ, ◌+◌, ◌-◌, ◌%◌, ◌<◌, true, false, ◌⊎◌, List, [], ◌∷◌, ◌++◌, Some, None, Option, sym, refl, ap, ◌∙◌, subst, inl, inr, ⊎_elim, arith}
 use Rattle.std.proofs.lemmas.Bool.{both_ways, cases_eq}
 use Rattle.words.specs.Widths.{bytes_of}
 use Rattle.words.specs.Words.{Sticks}
@@ -8,7 +8,7 @@ use Rattle.rule.specs.declared.record.Item.TheVariants.{Blank, Buffer, Mov, Alu,
 use Rattle.rule.specs.declared.record.Operand.{Operand}
 use Rattle.rule.specs.declared.record.Operand.TheVariants.{Register, Constant}
 use Rattle.rule.specs.declared.record.Record.{Record}
-use Rattle.machine.specs.Machine.{Regs, value, Reaches, Does, Gives, Moves, register_in, reads, In, Stuck}
+use Rattle.machine.specs.Machine.{Regs, value, Does, Gives, Moves, register_in, reads, In, Stuck}
 use Rattle.machine.specs.Machine.Does.{mov, alu, load, store, jump, taken, missed}
 use Rattle.machine.specs.Machine.Gives.{ret}
 use Rattle.machine.specs.Machine.Stuck.{unset, no_result, load-beyond, load_askew, store-beyond, store_askew}

@@ -1,5 +1,5 @@
 -- A table that passes the test is a rule.
-use Rattle.std.proofs.Common.{◌≡◌, ℕ, zero, suc, ◌+◌, ◌-◌, ◌<◌, ◌≤◌, Bool, true, false, ◌&&◌, ltb, leb, List, get_or, Option, sym, refl, ap, ◌∙◌, subst, inl, inr, ⊎_elim, arith}
+use Rattle.std.proofs.Common.{◌≡◌, ℕ, zero, suc, ◌-◌, ◌<◌, true, false, ◌&&◌, ltb, leb, List, get_or, Option, sym, refl, ◌∙◌, subst, inl, inr, ⊎_elim, arith}
 use Rattle.std.proofs.lemmas.Bool.{and_parts, ltb-true, leb-true, cases_eq, cases_Bool, cond-true, cond-false, both_ways}
 use Rattle.rule.specs.declared.record.Item.{Item}
 use Rattle.rule.specs.declared.record.Item.TheVariants.{Blank, Buffer, Mov, Alu, Load, Store, Jump, Branch, Ret}
@@ -8,7 +8,7 @@ use Rattle.rule.specs.declared.record.Operand.TheVariants.{Register, Constant}
 use Rattle.rule.specs.declared.record.Record.{Record}
 use Rattle.rule.specs.Records.{blank}
 use Rattle.machine.specs.declared.layout.Layout.{Layout}
-use Rattle.machine.specs.Tables.{buffer_count, code_length, behind, item_at, writable_at}
+use Rattle.machine.specs.Tables.{buffer_count, code_length, behind, writable_at}
 use Rattle.machine.specs.Valid.{operand_ok, jump_ok, item_ok, code_ok, is_ret, heads_ok, counts_ok, rest_ok, table_ok, layout_of, ValidOperand, ValidItem, Valid, ValidIn}
 
 operand_from : (s : Operand) → operand_ok s ≡ true → ValidOperand s

@@ -1,5 +1,5 @@
 -- The machine: its registers, what one step does, when it is stuck, and free runs, in which each load may bring any bytes.
-use Rattle.std.specs.Prelude.{◌≡◌, ℕ, suc, ◌+◌, ◌%◌, ◌^◌, ◌<◌, ◌≤◌, Bool, cond, ◌⊎◌, List, [], ◌∷◌, ◌++◌, Some, None, Option, ◌==◌, ◌≢◌}
+use Rattle.std.specs.Prelude.{◌≡◌, ℕ, suc, ◌+◌, ◌%◌, ◌^◌, ◌<◌, ◌≤◌, cond, ◌⊎◌, List, [], ◌∷◌, ◌++◌, Some, None, Option, ◌==◌, ◌≢◌}
 use Rattle.words.specs.Widths.{bits_of, bytes_of}
 use Rattle.words.specs.Words.{Word, result_of, Sticks, Related}
 use Rattle.words.specs.declared.operation.Operation.{Operation}

@@ -2,7 +2,6 @@
 use Rattle.std.specs.Prelude.{ℕ, suc, Bool, true, false, cond, List, [], ◌∷◌, get_or, drop, slice_index_or}
 use Rattle.rule.specs.declared.record.Item.{Item}
 use Rattle.rule.specs.declared.record.Item.TheVariants.{Blank, Buffer, Mov, Alu, Load, Store, Jump, Branch, Ret}
-use Rattle.rule.specs.declared.record.Mode.{Mode}
 use Rattle.rule.specs.declared.record.Mode.TheVariants.{ReadOnly, ReadWrite}
 use Rattle.rule.specs.declared.record.Record.{Record}
 use Rattle.rule.specs.Records.{blank}

@@ -1,4 +1,5 @@
 //! The machine that rules run on, as relations in `specs/`, which tables are rules for it, and where their buffers lie.
+#![tactic(auto)]
 
 mod layout;
 mod memory;

@@ -49,8 +49,8 @@ module _ (v : Standard) (q : List Record) (s : Sheet Standard) (k : Checked stan
       let zero : s.count ≡ 0 = omega (arith, length-take (s.count - 0) s.reports, counted) in
       subst NeverStuck same (k.sound zero).never_stuck
 
-pub slice-bounds-print-reports-end : goal.slice-bounds-print-reports-end
-slice-bounds-print-reports-end c =
+pub slice_bounds-print_reports-end : goal.slice_bounds-print_reports-end
+slice_bounds-print_reports-end c =
     let left = sheet c.check.new.rows c.check.new.marks c.check.new.reports c.in-Ok.field-0.count c.in-Ok.field-0.answer in
     omega (arith, counted c.any-rows.result c.of.result.table.now left c.in-Ok.ensures.found)
 
@@ -62,7 +62,7 @@ returns c =
     let left = sheet c.check.new.rows c.check.new.marks c.check.new.reports c.in-Ok.field-0.count c.in-Ok.field-0.answer in
     let text = told v q left c.in-Ok.ensures.found p c.of.ensures.0 c.any-rows.ensures in
     record {
-      count = c.print-reports.ensures.count ∙ ap (λ t. printed t c.args.output.now) text;
-      after = c.print-reports.ensures.after ∙ ap (λ t. output_after t c.args.output.now) text;
+      count = c.print_reports.ensures.count ∙ ap (λ t. printed t c.args.output.now) text;
+      after = c.print_reports.ensures.after ∙ ap (λ t. output_after t c.args.output.now) text;
       safe = safe v q left c.in-Ok.ensures.found p c.of.ensures.0 c.any-rows.ensures;
     }

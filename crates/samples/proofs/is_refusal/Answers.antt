@@ -13,5 +13,5 @@ front s t p r same fits =
 
 pub returns : goal.returns
 returns c =
-    front _ _ heading _ c.as-bytes.ensures.value
-    (starts_is Decides-eqb _ heading _ c.starts-with.ensures.value)
+    front _ _ heading _ c.as_bytes.ensures.value
+    (starts_is Decides-eqb _ heading _ c.starts_with.ensures.value)

@@ -42,7 +42,7 @@ returns g c =
     let left = sheet c.sweep.new.rows c.sweep.new.marks c.sweep.new.reports c.sweep.result.count c.sweep.result.answer in
     let value : left ≡ checked d p rows marks reports = c.sweep.ensures in
     let room : roomy p rows marks reports ≡ true =
-    ap (λ n. leb (8 * n) (length rows) && (leb n (length marks) && leb n (length reports))) (sym found.2) ∙ sym c.if-not-has-room.ensures in
+    ap (λ n. leb (8 * n) (length rows) && (leb n (length marks) && leb n (length reports))) (sym found.2) ∙ sym c.if-not-has_room.ensures in
     let parts = and_parts (leb (8 * code_length p) (length rows)) _ room in
     let rest = and_parts (leb (code_length p) (length marks)) (leb (code_length p) (length reports)) parts.1 in
     record {

@@ -13,4 +13,4 @@ returns c =
     let x = c.args.word in
     let width : a + c.bytes.result - a ≡ n = omega (arith, c.bytes.ensures) in
     let long : length (take (a + c.bytes.result - a) (drop a m)) ≡ n = simp (length-take, length-drop) (omega (arith, c.bytes.ensures)) in
-    put_written a (a + c.bytes.result - a) m c.put-word.new.bytes (bytes_in n x) (c.put-word.ensures ∙ ap (λ j. bytes_in j x) long) (width ∙ sym (bytes-long n x))
+    put_written a (a + c.bytes.result - a) m c.put_word.new.bytes (bytes_in n x) (c.put_word.ensures ∙ ap (λ j. bytes_in j x) long) (width ∙ sym (bytes-long n x))

@@ -7,11 +7,11 @@ use Rattle.engine.proofs.bytes.word_of.Goals as goal
 pub loop-k-init : goal.loop-k-init
 loop-k-init c = sym (ap word_of (drop_all (length c.args.bytes.now) c.args.bytes.now (omega arith)))
 
-pub overflow-mul-word : goal.overflow-mul-word
-overflow-mul-word c = let h = word_room c.args.bytes.now c.loop-k.k c.requires c.loop-k-test.true in let e = c.loop-k.invariant in omega arith
+pub overflow_mul-word : goal.overflow_mul-word
+overflow_mul-word c = let h = word_room c.args.bytes.now c.loop-k.k c.requires c.loop-k-test.true in let e = c.loop-k.invariant in omega arith
 
-pub overflow-add-word : goal.overflow-add-word
-overflow-add-word c =
+pub overflow_add-word : goal.overflow_add-word
+overflow_add-word c =
     let h = word_room c.args.bytes.now c.loop-k.k c.requires c.loop-k-test.true in
     let e = c.loop-k.invariant in
     let b = c.type-inv.bytes (c.loop-k.k - 1) in

@@ -6,8 +6,8 @@ use Rattle.engine.specs.Steps.{ended, run_from}
 use Rattle.engine.proofs.Driving.{item_read, run-next, step_came, go-inside}
 use Rattle.engine.proofs.course.drive.Goals as goal
 
-pub carry-out-requires : goal.carry-out-requires
-carry-out-requires c =
+pub carry_out-requires : goal.carry_out-requires
+carry_out-requires c =
     let p = c.args.table.now in
     let k = c.loop-steps.at in
     let inside = c.loop-steps.invariant.1 in
@@ -20,15 +20,15 @@ carry-out-requires c =
       memory = c.loop-steps.auto.memory ∙ c.requires.memory;
     }
 
-pub returns-in-err-to : goal.returns-in-err-to
-returns-in-err-to c =
+pub returns-in_err-to : goal.returns-in_err-to
+returns-in_err-to c =
     let p = c.args.table.now in
     let k = c.loop-steps.at in
     let r = c.loop-steps.registers in
     let m = c.loop-steps.memory in
     let n = c.loop-steps.steps in
-    let none = step_came p c.measure-buffers.result.buffers k r c.carry-out.new.registers m c.carry-out.new.memory c.carry-out.result c.measure-buffers.ensures.buffers c.carry-out.ensures None c.in-err-to.was in
-    ap (λ o. ended o c.carry-out.new.memory) c.from-residual.ensures
+    let none = step_came p c.measure-buffers.result.buffers k r c.carry_out.new.registers m c.carry_out.new.memory c.carry_out.result c.measure-buffers.ensures.buffers c.carry_out.ensures None c.in_err-to.was in
+    ap (λ o. ended o c.carry_out.new.memory) c.from-residual.ensures
     ∙ sym (run-next p (code_length p) n k r m None (omega (arith, c.measure-buffers.ensures.instructions)) none)
     ∙ c.loop-steps.invariant.0
 
@@ -39,8 +39,8 @@ returns-in-Return c =
     let r = c.loop-steps.registers in
     let m = c.loop-steps.memory in
     let n = c.loop-steps.steps in
-    let is = c.in-ok-to.was ∙ ap Some c.in-Return.is in
-    let came = step_came p c.measure-buffers.result.buffers k r c.carry-out.new.registers m c.carry-out.new.memory c.carry-out.result c.measure-buffers.ensures.buffers c.carry-out.ensures (Some (Return c.in-Return.answer)) is in
+    let is = c.in_ok-to.was ∙ ap Some c.in-Return.is in
+    let came = step_came p c.measure-buffers.result.buffers k r c.carry_out.new.registers m c.carry_out.new.memory c.carry_out.result c.measure-buffers.ensures.buffers c.carry_out.ensures (Some (Return c.in-Return.answer)) is in
     sym (run-next p (code_length p) n k r m _ (omega (arith, c.measure-buffers.ensures.instructions)) came) ∙ c.loop-steps.invariant.0
 
 pub loop-steps-preserved : goal.loop-steps-preserved
@@ -49,15 +49,15 @@ loop-steps-preserved c =
     let b = c.measure-buffers.result.buffers in
     let k = c.loop-steps.at in
     let r = c.loop-steps.registers in
-    let r' = c.carry-out.new.registers in
+    let r' = c.carry_out.new.registers in
     let m = c.loop-steps.memory in
-    let m' = c.carry-out.new.memory in
+    let m' = c.carry_out.new.memory in
     let n = c.loop-steps.steps in
     let to = c.in-Go.to in
-    let is = c.in-ok-to.was ∙ ap Some c.in-Go.is in
-    let came = step_came p b k r r' m m' c.carry-out.result c.measure-buffers.ensures.buffers c.carry-out.ensures (Some (Go to)) is in (
+    let is = c.in_ok-to.was ∙ ap Some c.in-Go.is in
+    let came = step_came p b k r r' m m' c.carry_out.result c.measure-buffers.ensures.buffers c.carry_out.ensures (Some (Go to)) is in (
       sym (run-next p (code_length p) n k r m _ (omega (arith, c.measure-buffers.ensures.instructions)) came) ∙ c.loop-steps.invariant.0,
-      go-inside p b k r r' m m' c.carry-out.result c.measure-buffers.ensures.buffers c.carry-out.ensures to c.requires.valid (c.loop-steps.auto.registers ∙ c.requires.registers) c.loop-steps.invariant.1 is,
+      go-inside p b k r r' m m' c.carry_out.result c.measure-buffers.ensures.buffers c.carry_out.ensures to c.requires.valid (c.loop-steps.auto.registers ∙ c.requires.registers) c.loop-steps.invariant.1 is,
     )
 
 pub returns : goal.returns

@@ -6,4 +6,4 @@ pub returns : goal.returns
 returns c =
     let at = c.args.at in
     let bytes = c.args.bytes.now in
-    put_written at (at + length bytes - at) c.args.memory.now c.copy-from-slice.new.self bytes c.copy-from-slice.ensures.after (omega arith)
+    put_written at (at + length bytes - at) c.args.memory.now c.copy_from_slice.new.self bytes c.copy_from_slice.ensures.after (omega arith)

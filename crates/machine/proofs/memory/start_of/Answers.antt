@@ -7,11 +7,11 @@ pub loop-b-init : goal.loop-b-init
 unfolding start_of
 loop-b-init c = (refl, omega arith)
 
-pub overflow-add-start : goal.overflow-add-start
-overflow-add-start c =
+pub overflow_add-start : goal.overflow_add-start
+overflow_add-start c =
     let small = small-buffer c.args.table.now c.loop-b.b c.requires.valid (omega (arith, c.requires.there)) in
     let few = c.requires.valid.few-buffers in
-    omega (arith, c.loop-b.invariant.1, c.size-of-start.ensures, c.requires.there)
+    omega (arith, c.loop-b.invariant.1, c.size_of-start.ensures, c.requires.there)
 
 pub loop-b-preserved : goal.loop-b-preserved
 loop-b-preserved c =
@@ -19,4 +19,4 @@ loop-b-preserved c =
     let b = c.loop-b.b in
     let small = small-buffer p b c.requires.valid (omega (arith, c.requires.there)) in
     let more = start-more p b in
-    (omega (arith, c.loop-b.invariant.0, c.size-of-start.ensures), omega (arith, c.loop-b.invariant.1, c.size-of-start.ensures))
+    (omega (arith, c.loop-b.invariant.0, c.size_of-start.ensures), omega (arith, c.loop-b.invariant.1, c.size_of-start.ensures))

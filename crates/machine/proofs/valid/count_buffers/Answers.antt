@@ -1,10 +1,10 @@
-use Rattle.std.proofs.Common.{arith, rules}
+use Rattle.std.proofs.Common.{arith}
 use Rattle.std.proofs.lemmas.Bool.Decides.{nat_tests}
 use Rattle.machine.proofs.Counts.{buffers-more, buffers-all}
 use Rattle.machine.proofs.valid.count_buffers.Goals as goal
 
-pub returns-then-not-is-buffer : goal.returns-then-not-is-buffer
-returns-then-not-is-buffer c = grind (arith, nat_tests, buffers-more)
+pub returns-then-not-is_buffer : goal.returns-then-not-is_buffer
+returns-then-not-is_buffer c = grind (arith, nat_tests, buffers-more)
 
 pub loop-i-preserved : goal.loop-i-preserved
 loop-i-preserved c = grind (arith, nat_tests, buffers-more)

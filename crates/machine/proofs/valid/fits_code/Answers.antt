@@ -8,4 +8,4 @@ unfolding code_ok
 loop-k-init c = refl
 
 pub loop-k-preserved : goal.loop-k-preserved
-loop-k-preserved c = rw (c.fits-item-fine.ensures, c.loop-k.invariant) (code-more c.args.table.now c.args.code.now c.args.n c.loop-k.k)
+loop-k-preserved c = rw (c.fits_item-fine.ensures, c.loop-k.invariant) (code-more c.args.table.now c.args.code.now c.args.n c.loop-k.k)

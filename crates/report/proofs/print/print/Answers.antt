@@ -26,7 +26,7 @@ all at from output first start heading lines none e here begun back room =
     (ap Ok whole ∙ sym (cond-true _ _ _ (sym room)), filled ∙ sym (cond-true _ _ _ (sym room)))
 
 pub put-at-requires : goal.put-at-requires
-put-at-requires g c = omega (arith, simp length-append at (true-leb _ _ c.if-not-has-room.ensures))
+put-at-requires g c = omega (arith, simp length-append at (true-leb _ _ c.if-not-has_room.ensures))
 
 pub loop-row-init : goal.loop-row-init
 loop-row-init g c = record { front = ap (λ front. front ++ rows_text g.R.Row.fields c.args.rows.now) c.put-at.ensures.front; back = refl; total = simp length-append (omega (arith, c.put-at.ensures.end)) }
@@ -34,7 +34,7 @@ loop-row-init g c = record { front = ap (λ front. front ++ rows_text g.R.Row.fi
 pub put-at-requires-in-loop-row : goal.put-at-requires-in-loop-row
 put-at-requires-in-loop-row g c =
     let more = rows_more g.R.Row.fields c.args.rows.now c.loop-row.row-index (omega arith) c.row-item.is c.text.ensures c.line-line.ensures in
-    omega (arith, c.loop-row.invariant.total, true-leb _ _ c.if-not-has-room.ensures, simp length-append at (ap length more))
+    omega (arith, c.loop-row.invariant.total, true-leb _ _ c.if-not-has_room.ensures, simp length-append at (ap length more))
 
 pub loop-row-preserved : goal.loop-row-preserved
 loop-row-preserved g c =
@@ -45,5 +45,5 @@ loop-row-preserved g c =
 pub returns : goal.returns
 returns g c =
     let none = at_drop_all (rows_text g.R.Row.fields) c.args.rows.now c.loop-row.row-index (omega arith) in
-    let done = all _ _ _ _ _ _ _ _ none c.loop-row.invariant c.put-at.ensures.end c.put-at.ensures.back c.if-not-has-room.ensures in
+    let done = all _ _ _ _ _ _ _ _ none c.loop-row.invariant c.put-at.ensures.end c.put-at.ensures.back c.if-not-has_room.ensures in
     record { count = done.0; after = done.1 }

@@ -12,7 +12,7 @@ loop-k-preserved g c =
     let k = c.loop-k.k in
     let inside : k < length c.loop-k.set = omega arith in (
       simp length-set c.loop-k.invariant.0,
-      below_more _ _ (λ j h. let ne : j ≢ k = omega arith in rw get_or-set_other (c.loop-k.invariant.1 j h)) (rw get_or-set_same (c.meet.ensures ∙ ap (λ b. meets c.args.old b k) c.changed-set.ensures)),
+      below_more _ _ (λ j h. let ne : j ≢ k = omega arith in rw get_or-set_other (c.loop-k.invariant.1 j h)) (rw get_or-set_same (c.meet.ensures ∙ ap (λ b. meets c.args.old b k) c.changed_set.ensures)),
     )
 
 pub returns : goal.returns

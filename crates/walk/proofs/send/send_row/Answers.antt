@@ -28,7 +28,7 @@ loop-k-preserved g c =
     get_or_read sofar (8 * a.to + k) c.index-rows-to.result to_in c.index-rows-to.is d.every
     ∙ ap (λ l. get_or l (8 * a.to + k) d.every) c.loop-k.invariant
     ∙ sent_other d a.from a.to a.old a.new a.change rows k (8 * a.to + k) (inr (omega arith)) in
-    let comes = c.changed-value-comes.ensures ∙ ap (changed_value a.change k) source in
+    let comes = c.changed_value-comes.ensures ∙ ap (changed_value a.change k) source in
     let brought : c.arrive.result ≡ coming d a.from a.to a.old a.new a.change rows k =
     c.arrive.ensures ∙ (λ i. arrived_value d a.old a.new (target i) (comes i) k) in
     (λ i. set (c.loop-k.invariant i) (8 * a.to + k) (brought i)) ∙ sent-more d a.from a.to a.old a.new a.change rows k

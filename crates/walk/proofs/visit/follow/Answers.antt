@@ -18,4 +18,4 @@ returns g c =
     let noted = c.note-count.ensures in
     let rows = jump.rows ∙ (λ i. sent_all d k o.to o.jump (next.rows i) (next.marks i)) in
     let marks = jump.marks ∙ ap (sent_marks k o.to o.jump) next.marks in
-    record { count = rw noted.count (counted-one o.report c.args.tally.count); sheet = λ i. sheet (rows i) (marks i) (noted.reports i) (noted.count i) (c.join-answers-answer.ensures i) }
+    record { count = rw noted.count (counted-one o.report c.args.tally.count); sheet = λ i. sheet (rows i) (marks i) (noted.reports i) (noted.count i) (c.join_answers-answer.ensures i) }

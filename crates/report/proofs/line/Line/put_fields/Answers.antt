@@ -18,8 +18,8 @@ loop-i-init c =
     let fields : List (Option ℕ) = c.args.fields.now in
     record { text = c.requires.1 ∙ sym (at_drop_all line_text fields (length fields) (omega arith)); byte = sym (at_drop_all behind fields (length fields) (omega arith)); room = omega (arith, ap length c.requires.1) }
 
-pub put-field-requires : goal.put-field-requires
-put-field-requires c = omega (arith, ap length c.put.ensures, c.loop-i.invariant.room)
+pub put_field-requires : goal.put_field-requires
+put_field-requires c = omega (arith, ap length c.put.ensures, c.loop-i.invariant.room)
 
 pub loop-i-preserved : goal.loop-i-preserved
-loop-i-preserved c = one_more _ _ _ _ _ _ (omega arith) (omega arith) c.loop-i.invariant c.put.ensures c.put-field.ensures.text c.put-field.ensures.short
+loop-i-preserved c = one_more _ _ _ _ _ _ (omega arith) (omega arith) c.loop-i.invariant c.put.ensures c.put_field.ensures.text c.put_field.ensures.short
