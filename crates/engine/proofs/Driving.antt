@@ -8,7 +8,7 @@ use Rattle.machine.proofs.Moving.{forward}
 use Rattle.machine.proofs.Places.{code_read}
 use Rattle.engine.specs.declared.next.Next.{Next}
 use Rattle.engine.specs.declared.next.Next.TheVariants.{Go}
-use Rattle.engine.specs.Steps.{and_then, Registers, register_of, Step, step, step_of, stepped, onward, run_from}
+use Rattle.engine.specs.Steps.{and_then, Registers, register_of, Step, step_of, stepped, onward, run_from}
 use Rattle.engine.proofs.Moves.{step_does}
 
 -- an instruction in its place in the table

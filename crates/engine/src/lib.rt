@@ -1,4 +1,5 @@
 //! Carries out the instructions of a rule on a memory, and fills the memory.
+#![tactic(auto)]
 
 mod bytes;
 mod course;

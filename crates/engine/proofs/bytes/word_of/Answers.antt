@@ -14,7 +14,7 @@ pub overflow_add-word : goal.overflow_add-word
 overflow_add-word c =
     let h = word_room c.args.bytes.now c.loop-k.k c.requires c.loop-k-test.true in
     let e = c.loop-k.invariant in
-    let b = c.type-inv.bytes (c.loop-k.k - 1) in
+    let b = c.type_inv.bytes (c.loop-k.k - 1) in
     omega (arith, c.from.ensures)
 
 pub loop-k-preserved : goal.loop-k-preserved
@@ -23,7 +23,7 @@ loop-k-preserved c =
     let k = c.loop-k.k in
     let e = c.loop-k.invariant in
     let same : k - 1 + 1 ≡ k = omega arith in
-    let small : get_or bs (k - 1) 0 < 256 = omega (arith, c.type-inv.bytes (k - 1)) in
+    let small : get_or bs (k - 1) 0 < 256 = omega (arith, c.type_inv.bytes (k - 1)) in
     let more = word_more bs (k - 1) (omega arith) small in
     let rest = ap (λ i. word_of (drop i bs)) same in
     omega (arith, c.from.ensures)

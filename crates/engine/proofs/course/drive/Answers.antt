@@ -28,7 +28,7 @@ returns-in_err-to c =
     let m = c.loop-steps.memory in
     let n = c.loop-steps.steps in
     let none = step_came p c.measure-buffers.result.buffers k r c.carry_out.new.registers m c.carry_out.new.memory c.carry_out.result c.measure-buffers.ensures.buffers c.carry_out.ensures None c.in_err-to.was in
-    ap (λ o. ended o c.carry_out.new.memory) c.from-residual.ensures
+    ap (λ o. ended o c.carry_out.new.memory) c.from_residual.ensures
     ∙ sym (run-next p (code_length p) n k r m None (omega (arith, c.measure-buffers.ensures.instructions)) none)
     ∙ c.loop-steps.invariant.0
 
