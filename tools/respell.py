@@ -20,6 +20,11 @@ CAMEL = re.compile(r"([a-z0-9])([A-Z])")
 WORD = r"A-Za-z0-9_'\-"
 # names of std's definitions that our lemmas speak of
 STD = "append take drop length get_or set map add sub mul div mod and or xor not shl shr pow min max cond".split()
+# fields and constructors: one word each, whatever its parts
+FIELDS = (
+    "same-marks same-reports only-holds low-holds facts-met label-last load-beyond store-beyond third-fits fourth-fits "
+    "few-buffers rows-kept marks-kept reports-kept"
+).split()
 # names that Rattle makes: goals, invariants and measures
 MADE = re.compile(r"(?:loop|returns|invariant|decreases|overflow|nonzero|bounds|slice|offset)-|.*-requires")
 # lemmas that would have the name of their definition
@@ -73,7 +78,7 @@ def respelled(names):
         parts = snake(name).split("-")
         new = parts[0]
         for before, after in zip(parts, parts[1:]):
-            new += ("-" if before in defined and after in defined else "_") + after
+            new += ("-" if before in defined and after in defined and name not in FIELDS else "_") + after
         new = TWINS.get(name, new)
         if new != name:
             turned[name] = new

@@ -36,8 +36,8 @@ Cause p rows marks reports NoRoom = (table_ok p ≡ true) × (roomy p rows marks
 pub record Refused {D : Type 0} (p : List Record) (rows rows' : List D) (marks marks' : List Mark) (reports reports' : List Report) (e : CheckRefusal) : Type 0 where
   pub cause : Cause p rows marks reports e
   pub same_rows : rows' ≡ rows
-  pub same-marks : marks' ≡ marks
-  pub same-reports : reports' ≡ reports
+  pub same_marks : marks' ≡ marks
+  pub same_reports : reports' ≡ reports
 
 -- a check accepts where it counts no report
 abbrev pub accepts : {D : Type 0} → Result (Tally D) CheckRefusal → Bool

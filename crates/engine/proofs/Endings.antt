@@ -114,8 +114,8 @@ inputs words f = record {
   fourth = get_or words 3 0;
   first_fits = f.first;
   second_fits = f.second;
-  third-fits = f.third;
-  fourth-fits = f.fourth;
+  third_fits = f.third;
+  fourth_fits = f.fourth;
 }
 
 four_are : (words : List ℕ) → length words ≡ 4 → get_or words 0 0 ∷ get_or words 1 0 ∷ get_or words 2 0 ∷ get_or words 3 0 ∷ [] ≡ words

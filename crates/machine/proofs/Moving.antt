@@ -11,7 +11,7 @@ use Rattle.rule.specs.declared.record.Record.{Record}
 use Rattle.machine.specs.Machine.{Regs, value, Does, Gives, Moves, register_in, reads, In, Stuck}
 use Rattle.machine.specs.Machine.Does.{mov, alu, load, store, jump, taken, missed}
 use Rattle.machine.specs.Machine.Gives.{ret}
-use Rattle.machine.specs.Machine.Stuck.{unset, no_result, load-beyond, load_askew, store-beyond, store_askew}
+use Rattle.machine.specs.Machine.Stuck.{unset, no_result, load_beyond, load_askew, store_beyond, store_askew}
 use Rattle.machine.specs.Tables.{code_length, item_at}
 use Rattle.machine.specs.Valid.{is_ret, ValidItem, Valid}
 
@@ -64,17 +64,17 @@ gives_set r x (Branch c l s to) g m h n = elim g [ ]
 does_free : (p : List Record) (k : ℕ) (r : Regs) (j : ℕ) (q : Regs) (i : Item) → Does p k r j q i → Stuck p r i → ⊥
 does_free p k r j q i d (unset m h n) = does_set p k r j q i d m h n
 does_free p k r j q (Alu op t s) (alu x y ex ey ok ej eq) (no_result z ez st) = ok (subst (Sticks op) (some_same (value r s) z y ez ey) st)
-does_free p k r j q (Load w t b s) (load i x e re hx ej eq) (load-beyond z ez st) = let same = some_same (value r s) i z e ez in omega (arith, re.inside, st)
+does_free p k r j q (Load w t b s) (load i x e re hx ej eq) (load_beyond z ez st) = let same = some_same (value r s) i z e ez in omega (arith, re.inside, st)
 does_free p k r j q (Load w t b s) (load i x e re hx ej eq) (load_askew z ez st) = st (subst (λ n. n % bytes_of w ≡ 0) (some_same (value r s) i z e ez) re.even)
-does_free p k r j q (Store w b s t) (store i x e ex re ej eq) (store-beyond z ez st) = let same = some_same (value r s) i z e ez in omega (arith, re.inside, st)
+does_free p k r j q (Store w b s t) (store i x e ex re ej eq) (store_beyond z ez st) = let same = some_same (value r s) i z e ez in omega (arith, re.inside, st)
 does_free p k r j q (Store w b s t) (store i x e ex re ej eq) (store_askew z ez st) = st (subst (λ n. n % bytes_of w ≡ 0) (some_same (value r s) i z e ez) re.even)
 
 gives-free : (p : List Record) (r : Regs) (x : ℕ) (i : Item) → Gives r x i → Stuck p r i → ⊥
 gives-free p r x i g (unset m h n) = gives_set r x i g m h n
 gives-free p r x (Alu op t s) g (no_result z ez st) = elim g [ ]
-gives-free p r x (Load w t b s) g (load-beyond z ez st) = elim g [ ]
+gives-free p r x (Load w t b s) g (load_beyond z ez st) = elim g [ ]
 gives-free p r x (Load w t b s) g (load_askew z ez st) = elim g [ ]
-gives-free p r x (Store w b s t) g (store-beyond z ez st) = elim g [ ]
+gives-free p r x (Store w b s t) g (store_beyond z ez st) = elim g [ ]
 gives-free p r x (Store w b s t) g (store_askew z ez st) = elim g [ ]
 
 pub not_stuck : (p : List Record) (k : ℕ) (r : Regs) (i : Item) → Moves p k r i → Stuck p r i → ⊥

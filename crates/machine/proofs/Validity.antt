@@ -61,7 +61,7 @@ valid-from p e =
     let g = and_parts (code_ok p cs n n) (is_ret (get_or cs (n - 1) blank).item) f.1 in
     let h = and_parts (heads_ok p) _ f.0 in
     record {
-      few-buffers = leb-true _ _ b.0;
+      few_buffers = leb-true _ _ b.0;
       some = omega (arith, leb-true 1 n c.0);
       few = leb-true _ _ c.1;
       heads = h.0;

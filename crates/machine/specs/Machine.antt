@@ -84,9 +84,9 @@ In k (x ∷ xs) = (k ≡ x) ⊎ In k xs
 pub data Stuck (p : List Record) (r : Regs) : Item → Type 0 where
   unset : {i : Item} (k : ℕ) → In k (reads i) → r k ≡ None → Stuck p r i
   no_result : {op : Operation} {t : ℕ} {s : Operand} (y : ℕ) → value r s ≡ Some y → Sticks op y → Stuck p r (Alu op t s)
-  load-beyond : {w : Width} {t b : ℕ} {s : Operand} (i : ℕ) → value r s ≡ Some i → size_at p b < i + bytes_of w → Stuck p r (Load w t b s)
+  load_beyond : {w : Width} {t b : ℕ} {s : Operand} (i : ℕ) → value r s ≡ Some i → size_at p b < i + bytes_of w → Stuck p r (Load w t b s)
   load_askew : {w : Width} {t b : ℕ} {s : Operand} (i : ℕ) → value r s ≡ Some i → (i % bytes_of w ≢ 0) → Stuck p r (Load w t b s)
-  store-beyond : {w : Width} {b : ℕ} {s : Operand} {t : ℕ} (i : ℕ) → value r s ≡ Some i → size_at p b < i + bytes_of w → Stuck p r (Store w b s t)
+  store_beyond : {w : Width} {b : ℕ} {s : Operand} {t : ℕ} (i : ℕ) → value r s ≡ Some i → size_at p b < i + bytes_of w → Stuck p r (Store w b s t)
   store_askew : {w : Width} {b : ℕ} {s : Operand} {t : ℕ} (i : ℕ) → value r s ≡ Some i → (i % bytes_of w ≢ 0) → Stuck p r (Store w b s t)
 
 -- ── free runs ──
@@ -104,8 +104,8 @@ pub record Inputs : Type 0 where
   pub fourth : ℕ
   pub first_fits : Word first
   pub second_fits : Word second
-  pub third-fits : Word third
-  pub fourth-fits : Word fourth
+  pub third_fits : Word third
+  pub fourth_fits : Word fourth
 
 -- the registers 1 to 4 have the four words, and no other is set
 abbrev pub entry : Inputs → Regs

@@ -92,7 +92,7 @@ ValidItem p n k (Buffer size mode) = ⊥
 ValidItem p n k Blank = ⊥
 
 pub record Valid (p : List Record) : Type 0 where
-  pub few-buffers : buffer_count p ≤ 8
+  pub few_buffers : buffer_count p ≤ 8
   pub some : 0 < code_length p
   pub few : code_length p ≤ 96
   pub heads : heads_ok p ≡ true

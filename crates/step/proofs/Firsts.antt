@@ -23,7 +23,7 @@ use Rattle.step.specs.declared.cause.Cause.TheVariants.{Unset, Divisor, Shift, B
 use Rattle.step.specs.declared.mark.Mark.{Mark}
 use Rattle.step.specs.Causes.{cause_number}
 use Rattle.step.specs.Lacks.{told_of, Multiples, Lacks, First}
-use Rattle.step.specs.Lacks.Lacks.{unset, divisor, shift_left, shift_right, load-beyond, load_askew, store-beyond, store_askew}
+use Rattle.step.specs.Lacks.Lacks.{unset, divisor, shift_left, shift_right, load_beyond, load_askew, store_beyond, store_askew}
 use Rattle.step.specs.Needs.{divisor_cause, shift_cause, is_even, access_cause}
 use Rattle.step.specs.Rows.{amount, is_set, first_unset, doubted, first_report}
 use Rattle.step.specs.Transfer.{alu_cause, judged}
@@ -204,12 +204,12 @@ module _ {D : Type 0} (d : Ghosts D) (p : List Record) (row : List D) (m : Mark)
 
   only-load : (w : Width) (t b : ℕ) (s : Operand) (c : Cause) → 1 < cause_number c → lacks (Load w t b s) c → Access (told_of d row s) w (size_at p b) c
   only-load w t b s c l (unset k a e) = absurd (omega arith)
-  only-load w t b s Beyond l (load-beyond a) = inl (refl, a)
+  only-load w t b s Beyond l (load_beyond a) = inl (refl, a)
   only-load w t b s Askew l (load_askew a) = inr (refl, a)
 
   only_store : (w : Width) (b : ℕ) (s : Operand) (t : ℕ) (c : Cause) → 1 < cause_number c → lacks (Store w b s t) c → Access (told_of d row s) w (size_at p b) c
   only_store w b s t c l (unset k a e) = absurd (omega arith)
-  only_store w b s t Beyond l (store-beyond a) = inl (refl, a)
+  only_store w b s t Beyond l (store_beyond a) = inl (refl, a)
   only_store w b s t Askew l (store_askew a) = inr (refl, a)
 
   -- ── any instruction ──
@@ -219,10 +219,10 @@ module _ {D : Type 0} (d : Ghosts D) (p : List Record) (row : List D) (m : Mark)
   judged-first (Alu op t s) = from (Alu op t s) s (first_unset m (reads (Alu op t s))) (alu_cause d op (amount d row s)) (first_of m (reads (Alu op t s))) (alu-second op t s)
   judged-first (Load w t b s) =
       from (Load w t b s) s (first_unset m (reads (Load w t b s))) (access_cause (told_of d row s) w (size_at p b)) (first_of m (reads (Load w t b s)))
-      (access_second (Load w t b s) (told_of d row s) w (size_at p b) (λ h. load-beyond h) (λ h. load_askew h) (only-load w t b s))
+      (access_second (Load w t b s) (told_of d row s) w (size_at p b) (λ h. load_beyond h) (λ h. load_askew h) (only-load w t b s))
   judged-first (Store w b s t) =
       from (Store w b s t) s (first_unset m (reads (Store w b s t))) (access_cause (told_of d row s) w (size_at p b)) (first_of m (reads (Store w b s t)))
-      (access_second (Store w b s t) (told_of d row s) w (size_at p b) (λ h. store-beyond h) (λ h. store_askew h) (only_store w b s t))
+      (access_second (Store w b s t) (told_of d row s) w (size_at p b) (λ h. store_beyond h) (λ h. store_askew h) (only_store w b s t))
   judged-first (Jump to) = never-jump to
   judged-first (Branch c l s to) = from (Branch c l s to) s (first_unset m (reads (Branch c l s to))) None (first_of m (reads (Branch c l s to))) (plain_branch c l s to)
   judged-first Ret = from Ret (Constant 0) (first_unset m (reads Ret)) None (first_of m (reads Ret)) plain-ret

@@ -90,4 +90,4 @@ module _ {D : Type 0} (d : Ghosts D) where
     -- an operand all of whose registers are set
     pub amount_has : Lawful d → (s : Operand) → ValidOperand s → first_unset m (register_in s) ≡ None → Has d (amount d row s) (value r s)
     amount_has laws (Register k) valid e = fit k valid (set_first m k [] e).0
-    amount_has laws (Constant c) valid e = record { word = c; is = refl; fits = valid; held = laws.only-holds c valid }
+    amount_has laws (Constant c) valid e = record { word = c; is = refl; fits = valid; held = laws.only_holds c valid }

@@ -63,12 +63,12 @@ module _ {D : Type 0} (d : Ghosts D) (laws : Lawful d) where
   result_shown Add b y wy hb e s = s
   result_shown Sub b y wy hb e s = s
   result_shown Mul b y wy hb e s = s
-  result_shown Div b y wy hb e s = divisor-shown (d.told b) y e (laws.facts-met b y wy hb) s
+  result_shown Div b y wy hb e s = divisor-shown (d.told b) y e (laws.facts_met b y wy hb) s
   result_shown And b y wy hb e s = s
   result_shown Or b y wy hb e s = s
   result_shown Xor b y wy hb e s = s
-  result_shown Shl b y wy hb e s = shift_shown (d.told b) y e (laws.facts-met b y wy hb) s
-  result_shown Shr b y wy hb e s = shift_shown (d.told b) y e (laws.facts-met b y wy hb) s
+  result_shown Shl b y wy hb e s = shift_shown (d.told b) y e (laws.facts_met b y wy hb) s
+  result_shown Shr b y wy hb e s = shift_shown (d.told b) y e (laws.facts_met b y wy hb) s
 
   width_word : (w : Width) (x : ℕ) → x < 2 ^ bits_of w → Word x
   width_word W8 x h = omega arith
@@ -103,10 +103,10 @@ module _ {D : Type 0} (d : Ghosts D) (laws : Lawful d) where
     -- ── loads and stores ──
     load-leads : (w : Width) (t b : ℕ) (s : Operand) → (j : ℕ) (q : Regs) → Does p k r j q (Load w t b s) → Leads d row m k (goes_on None (patched t (d.under w))) j q
     load-leads w t b s j q (load i x e re hx ej eq) =
-        inl (ej, subst (FitsChange d row m (patched t (d.under w))) (sym eq) (written-fits d row m r fit t (d.under w) x (width_word w x hx) (laws.low-holds w x hx)))
+        inl (ej, subst (FitsChange d row m (patched t (d.under w))) (sym eq) (written-fits d row m r fit t (d.under w) x (width_word w x hx) (laws.low_holds w x hx)))
 
     index_reaches : (b : ℕ) (w : Width) (s : Operand) → (h : Has d (amount d row s) (value r s)) → index_cause d p b w (amount d row s) ≡ None → Reaches p b w h.word
-    index_reaches b w s h cause = access_shown (d.told (amount d row s)) p b w h.word cause (laws.facts-met (amount d row s) h.word h.fits h.held)
+    index_reaches b w s h cause = access_shown (d.told (amount d row s)) p b w h.word cause (laws.facts_met (amount d row s) h.word h.fits h.held)
 
     safe-load : (w : Width) (t b : ℕ) (s : Operand) → ValidOperand s → first_unset m (register_in s) ≡ None → index_cause d p b w (amount d row s) ≡ None → Safe d p row m k r (Load w t b s) (goes_on None (patched t (d.under w)))
     safe-load w t b s vs none cause =

@@ -35,9 +35,9 @@ pub data Lacks {D : Type 0} (d : Ghosts D) (p : List Record) (row : List D) (m :
   divisor : {t : ℕ} {s : Operand} → known (told_of d row s).bits ≡ 0 → least (told_of d row s).range ≡ 0 → Lacks d p row m (Alu Div t s) Divisor
   shift_left : {t : ℕ} {s : Operand} → 63 < most (told_of d row s).range → Lacks d p row m (Alu Shl t s) Shift
   shift_right : {t : ℕ} {s : Operand} → 63 < most (told_of d row s).range → Lacks d p row m (Alu Shr t s) Shift
-  load-beyond : {w : Width} {t b : ℕ} {s : Operand} → size_at p b < most (told_of d row s).range + bytes_of w → Lacks d p row m (Load w t b s) Beyond
+  load_beyond : {w : Width} {t b : ℕ} {s : Operand} → size_at p b < most (told_of d row s).range + bytes_of w → Lacks d p row m (Load w t b s) Beyond
   load_askew : {w : Width} {t b : ℕ} {s : Operand} → (Multiples (told_of d row s) w → ⊥) → Lacks d p row m (Load w t b s) Askew
-  store-beyond : {w : Width} {b : ℕ} {s : Operand} {t : ℕ} → size_at p b < most (told_of d row s).range + bytes_of w → Lacks d p row m (Store w b s t) Beyond
+  store_beyond : {w : Width} {b : ℕ} {s : Operand} {t : ℕ} → size_at p b < most (told_of d row s).range + bytes_of w → Lacks d p row m (Store w b s t) Beyond
   store_askew : {w : Width} {b : ℕ} {s : Operand} {t : ℕ} → (Multiples (told_of d row s) w → ⊥) → Lacks d p row m (Store w b s t) Askew
 
 -- a report tells a cause, and none with a smaller number; where there is no report, there is no cause

@@ -86,9 +86,9 @@ module _ {D : Type 0} (d : Ghosts D) (p : List Record) where
       few : s.count ≤ n
       room : code_length p ≤ length s.reports
       answered : s.answer ≡ answers_of d p s.rows s.marks n
-      rows-kept : drop (8 * code_length p) s.rows ≡ drop (8 * code_length p) rows₀
-      marks-kept : drop (code_length p) s.marks ≡ drop (code_length p) marks₀
-      reports-kept : drop s.count s.reports ≡ drop s.count reports₀
+      rows_kept : drop (8 * code_length p) s.rows ≡ drop (8 * code_length p) rows₀
+      marks_kept : drop (code_length p) s.marks ≡ drop (code_length p) marks₀
+      reports_kept : drop s.count s.reports ≡ drop s.count reports₀
 
     module _ (n : ℕ) (inside : n < code_length p) (s : Sheet D) (was : Read n s) where
       abbrev o : Outcome D
@@ -128,9 +128,9 @@ module _ {D : Type 0} (d : Ghosts D) (p : List Record) where
               answered =
                   (λ i. joined_in d (was.answered i) (answer-here i))
                   ∙ sym (answers_same s.rows t.rows s.marks t.marks (suc n) (λ k h. row_kept d p valid n inside s k (omega arith)) (λ k h. mark-kept d p valid n inside s k (omega arith)));
-              rows-kept = sent-rows-rest d (code_length p) n o.to rows-mid marks-mid o.jump w.1 ∙ sent-rows-rest d (code_length p) n (n + 1) s.rows s.marks o.next w.0 ∙ was.rows-kept;
-              marks-kept = sent-marks-rest d (code_length p) n o.to rows-mid marks-mid o.jump w.1 ∙ sent-marks-rest d (code_length p) n (n + 1) s.rows s.marks o.next w.0 ∙ was.marks-kept;
-              reports-kept = noted-rest o.report s.reports reports₀ s.count was.reports-kept;
+              rows_kept = sent-rows-rest d (code_length p) n o.to rows-mid marks-mid o.jump w.1 ∙ sent-rows-rest d (code_length p) n (n + 1) s.rows s.marks o.next w.0 ∙ was.rows_kept;
+              marks_kept = sent-marks-rest d (code_length p) n o.to rows-mid marks-mid o.jump w.1 ∙ sent-marks-rest d (code_length p) n (n + 1) s.rows s.marks o.next w.0 ∙ was.marks_kept;
+              reports_kept = noted-rest o.report s.reports reports₀ s.count was.reports_kept;
             }
 
       read_passed : (mark_at s.marks n).reached ≡ false → Read (suc n) s
@@ -142,9 +142,9 @@ module _ {D : Type 0} (d : Ghosts D) (p : List Record) where
             few = omega arith;
             room = was.room;
             answered = was.answered ∙ sym (joined-none d _) ∙ ap (joined_in d (answers_of d p s.rows s.marks n)) (sym (cond-false _ _ _ (and_left (mark_at s.marks n).reached _ e)));
-            rows-kept = was.rows-kept;
-            marks-kept = was.marks-kept;
-            reports-kept = was.reports-kept;
+            rows_kept = was.rows_kept;
+            marks_kept = was.marks_kept;
+            reports_kept = was.reports_kept;
           }
 
       read_visited : Read (suc n) (visited d p (code_at p n) n s)
@@ -173,9 +173,9 @@ module _ {D : Type 0} (d : Ghosts D) (p : List Record) where
       few = omega arith;
       room = room;
       answered = refl;
-      rows-kept = front_kept (8 * code_length p) d.every rows₀;
-      marks-kept = drop-set-lt (code_length p) _ 0 walk.start valid.some ∙ front_kept (code_length p) walk.unreached marks₀;
-      reports-kept = refl;
+      rows_kept = front_kept (8 * code_length p) d.every rows₀;
+      marks_kept = drop-set-lt (code_length p) _ 0 walk.start valid.some ∙ front_kept (code_length p) walk.unreached marks₀;
+      reports_kept = refl;
     }
 
     first-told : (s : Sheet D) (k : ℕ) → (mark_at s.marks k).reached ≡ true → First (Lacks d p (row_at s.rows k) (mark_at s.marks k) (item_at p k)) (report_at d p s.rows s.marks k)
@@ -195,7 +195,7 @@ module _ {D : Type 0} (d : Ghosts D) (p : List Record) where
           counted = sym (sym (ap length read.reported) ∙ length-take-le s.count s.reports (omega arith));
           first = first-told s;
           answered = read.answered;
-          rows-kept = read.rows-kept;
-          marks-kept = read.marks-kept;
-          reports-kept = read.reports-kept;
+          rows_kept = read.rows_kept;
+          marks_kept = read.marks_kept;
+          reports_kept = read.reports_kept;
         }

@@ -216,8 +216,8 @@ module _ {D : Type 0} (d : Ghosts D) (laws : Lawful d) (p : List Record) (valid 
   entry_has x zero l e = absurd (both_ways false refl e)
   entry_has x (suc zero) l e = record { word = x.first; is = refl; fits = x.first_fits; held = laws.any_holds _ x.first_fits }
   entry_has x (suc (suc zero)) l e = record { word = x.second; is = refl; fits = x.second_fits; held = laws.any_holds _ x.second_fits }
-  entry_has x (suc (suc (suc zero))) l e = record { word = x.third; is = refl; fits = x.third-fits; held = laws.any_holds _ x.third-fits }
-  entry_has x (suc (suc (suc (suc zero)))) l e = record { word = x.fourth; is = refl; fits = x.fourth-fits; held = laws.any_holds _ x.fourth-fits }
+  entry_has x (suc (suc (suc zero))) l e = record { word = x.third; is = refl; fits = x.third_fits; held = laws.any_holds _ x.third_fits }
+  entry_has x (suc (suc (suc (suc zero)))) l e = record { word = x.fourth; is = refl; fits = x.fourth_fits; held = laws.any_holds _ x.fourth_fits }
   entry_has x (suc (suc (suc (suc (suc zero))))) l e = absurd (both_ways false refl e)
   entry_has x (suc (suc (suc (suc (suc (suc zero)))))) l e = absurd (both_ways false refl e)
   entry_has x (suc (suc (suc (suc (suc (suc (suc zero))))))) l e = absurd (both_ways false refl e)

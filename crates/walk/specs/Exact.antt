@@ -44,6 +44,6 @@ pub record Exact {D : Type 0} (d : Ghosts D) (p : List Record) (rows : List D) (
   -- the answer is the join over every `ret` that is reached and not reported
   pub answered : s.answer ≡ answers_of d p s.rows s.marks (code_length p)
   -- the rest of each list is as it was
-  pub rows-kept : drop (8 * code_length p) s.rows ≡ drop (8 * code_length p) rows
-  pub marks-kept : drop (code_length p) s.marks ≡ drop (code_length p) marks
-  pub reports-kept : drop s.count s.reports ≡ drop s.count reports
+  pub rows_kept : drop (8 * code_length p) s.rows ≡ drop (8 * code_length p) rows
+  pub marks_kept : drop (code_length p) s.marks ≡ drop (code_length p) marks
+  pub reports_kept : drop s.count s.reports ≡ drop s.count reports

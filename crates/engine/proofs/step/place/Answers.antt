@@ -12,7 +12,7 @@ inside c = let sum = c.in_ok-checked_add.ensures in omega (arith, c.if-branch-si
 pub overflow_add-result : goal.overflow_add-result
 overflow_add-result c =
     let small = small-buffer c.args.table.now c.args.buffer c.requires.valid c.requires.there in
-    let few = c.requires.valid.few-buffers in
+    let few = c.requires.valid.few_buffers in
     omega (arith, inside c, c.start_of.ensures.bound, c.requires.there)
 
 pub returns-then-index-bytes-eq0 : goal.returns-then-index-bytes-eq0

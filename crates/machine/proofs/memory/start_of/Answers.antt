@@ -10,7 +10,7 @@ loop-b-init c = (refl, omega arith)
 pub overflow_add-start : goal.overflow_add-start
 overflow_add-start c =
     let small = small-buffer c.args.table.now c.loop-b.b c.requires.valid (omega (arith, c.requires.there)) in
-    let few = c.requires.valid.few-buffers in
+    let few = c.requires.valid.few_buffers in
     omega (arith, c.loop-b.invariant.1, c.size_of-start.ensures, c.requires.there)
 
 pub loop-b-preserved : goal.loop-b-preserved

@@ -12,7 +12,7 @@ pub overflow_add-end : goal.overflow_add-end
 overflow_add-end c =
     let p = c.args.self.now.table.now in
     let valid = valid-from p c.args.self.now.valid in
-    let few = valid.few-buffers in
+    let few = valid.few_buffers in
     let small = small-buffer p c.args.buffer valid (omega (arith, c.if-buffer-measure.false, c.measure.ensures.buffers)) in
     omega (arith, c.start_of-start.ensures.bound, c.size_of.ensures, c.if-buffer-measure.false, c.measure.ensures.buffers)
 
