@@ -9,7 +9,7 @@ use Rattle.step.specs.declared.report.Report.{Report}
 use Rattle.walk.specs.declared.tally.Tally.{Tally}
 use Rattle.walk.specs.Exact.{Exact}
 use Rattle.walk.specs.Sound.{Sound}
-use Rattle.walk.specs.Walk.{Sheet, sheet, checked}
+use Rattle.walk.specs.Walk.{Sheet, checked}
 use Rattle.checker.specs.declared.refusal.CheckRefusal.{CheckRefusal}
 use Rattle.checker.specs.declared.refusal.CheckRefusal.TheVariants.{NoRule, NoRoom}
 

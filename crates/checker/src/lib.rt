@@ -1,5 +1,6 @@
 //! A table of records on its way to a rule that runs: a draft is checked over a domain, a clean draft is passed, and a
 //! passed rule fills its memory and runs.
+#![tactic(auto)]
 
 mod call;
 mod calls;

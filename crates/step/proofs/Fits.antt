@@ -1,5 +1,5 @@
 -- When a row and a mark tell the truth of the registers, and what keeps it so.
-use Rattle.std.proofs.Common.{◌≡◌, ℕ, ◌+◌, ◌<◌, Bool, true, false, cond, eqb, ◌⊎◌, List, [], ◌∷◌, Some, None, Option, sym, refl, ap, ◌∙◌, subst, inl, inr, ⊎_elim, arith}
+use Rattle.std.proofs.Common.{◌≡◌, ℕ, ◌<◌, Bool, true, eqb, List, [], Some, None, Option, sym, refl, ap, ◌∙◌, subst, ⊎_elim, arith}
 use Rattle.std.proofs.lemmas.Bool.{cases_eq, eq-eqb, ne_eqb, cond-true, cond-false}
 use Rattle.words.specs.Sets.{HoldsIn}
 use Rattle.words.specs.Words.{Word}
@@ -15,7 +15,7 @@ use Rattle.step.specs.declared.outcome.Change.{Change}
 use Rattle.step.specs.declared.outcome.Patch.{Patch}
 use Rattle.step.specs.Changes.{patch_value, patch_set, changed_value, changed_set}
 use Rattle.step.specs.Rows.{cell, amount, is_set, first_unset, unchanged, patch, patched}
-use Rattle.step.specs.Transfer.{both_to, patch_to, is_same}
+use Rattle.step.specs.Transfer.{both_to, patch_to}
 use Rattle.step.proofs.Shows.{set_first}
 
 -- a register is set, to a word that the value holds

@@ -1,10 +1,7 @@
 -- The row and the mark after a change.
-use Rattle.std.specs.Prelude.{ℕ, Bool, true, cond, List, Some, None, Option, ◌==◌}
-use Rattle.domain.specs.declared.domain.Domain.{Ghosts}
-use Rattle.step.specs.declared.mark.Mark.{Mark}
+use Rattle.std.specs.Prelude.{ℕ, Bool, true, cond, Some, None, Option, ◌==◌}
 use Rattle.step.specs.declared.outcome.Change.{Change}
 use Rattle.step.specs.declared.outcome.Patch.{Patch}
-use Rattle.step.specs.Rows.{cell, is_set}
 
 -- the value of register k under a patch, and whether it is set
 abbrev pub patch_value : {D : Type 0} → Option (Patch D) → ℕ → D → D

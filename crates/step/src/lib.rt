@@ -1,4 +1,5 @@
 //! What one instruction makes of what is known before it: whether its need is shown, and what is known after it.
+#![tactic(auto)]
 
 mod cause;
 mod judge;

@@ -1,4 +1,5 @@
 //! The sweep over a rule's instructions: what is known flows forward, row by row.
+#![tactic(auto)]
 
 mod flow;
 mod send;

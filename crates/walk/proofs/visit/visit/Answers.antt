@@ -15,7 +15,7 @@ eight n = omega arith
 pub follow-requires : goal.follow-requires
 follow-requires g c =
     let a = c.args in
-    let out = c.carry_out.ensures ∙ ap (λ n. transfer g.D.Domain a.table.now a.code.line a.code.item (take n (drop (8 * a.at) a.rows.now)) (mark_at a.marks.now a.at)) (eight a.at) in
+    let out = c.carry-out.ensures ∙ ap (λ n. transfer g.D.Domain a.table.now a.code.line a.code.item (take n (drop (8 * a.at) a.rows.now)) (mark_at a.marks.now a.at)) (eight a.at) in
     record { ways = subst (Ways (length a.marks.now) a.at) (sym out) c.requires.ways; rows = subst (Ways (length a.rows.now / 8) a.at) (sym out) c.requires.rows; few = c.requires.few.0; room = c.requires.room }
 
 pub returns : goal.returns
@@ -23,8 +23,8 @@ unfolding visited
 returns g c =
     let d = g.D.Domain in
     let a = c.args in
-    let out : c.carry_out.result ≡ outcome_at d a.table.now a.code a.at a.rows.now a.marks.now =
-    c.carry_out.ensures ∙ ap (λ n. transfer d a.table.now a.code.line a.code.item (take n (drop (8 * a.at) a.rows.now)) (mark_at a.marks.now a.at)) (eight a.at) in
+    let out : c.carry-out.result ≡ outcome_at d a.table.now a.code a.at a.rows.now a.marks.now =
+    c.carry-out.ensures ∙ ap (λ n. transfer d a.table.now a.code.line a.code.item (take n (drop (8 * a.at) a.rows.now)) (mark_at a.marks.now a.at)) (eight a.at) in
     let before = sheet a.rows.now a.marks.now a.reports.now a.tally.count a.tally.answer in
     record {
       sheet = c.follow.ensures.sheet ∙ ap (λ o. applied d a.at o before) out ∙ sym (cond-true (mark_at a.marks.now a.at).reached _ _ (not-false _ c.if-not-mark.false));
