@@ -1,5 +1,5 @@
 -- What is wrong with a line speaks against its being fine.
-use Rattle.std.proofs.Common.{◌≡◌, ℕ, ◌+◌, ◌<◌, true, false, ◌⊎◌, List, [], ◌∷◌, length, drop, codes, sym, refl, ap, ◌∙◌, inl, inr, ⊎_elim, arith}
+use Rattle.std.proofs.Common.{◌≡◌, ℕ, ◌<◌, true, List, [], ◌∷◌, length, drop, codes, sym, ap, ◌∙◌, ⊎_elim, arith}
 use Rattle.std.proofs.lemmas.Bool.{both_ways, cases_order}
 use Rattle.lexer.specs.declared.place.Place.{Place}
 use Rattle.lexer.specs.declared.fault.FieldFault.TheVariants.{Character, Kind as WrongKind}
@@ -8,7 +8,7 @@ use Rattle.syntax.specs.declared.fault.LineFault.TheVariants.{Field, Heading, Fo
 use Rattle.syntax.specs.declared.mnemonic.Mnemonic.{Mnemonic}
 use Rattle.grammar.specs.declared.fault.ProgramFault.{ProgramFault}
 use Rattle.grammar.specs.declared.fault.ProgramFault.TheVariants.{Line, TooLong, Repeated, Full, Unknown, Backward, ReadOnly, Unclosed}
-use Rattle.grammar.specs.Causes.{field_at, line_at, is_label, label_name, HasForm, SameBuffer, FineBuffer, WrongBuffer, FineLabel, FineInstruction, FineCode, WrongLabel, WrongInstruction, WrongCode, FineNames, WrongNames, Declares}
+use Rattle.grammar.specs.Causes.{field_at, line_at, is_label, label_name, HasForm, FineBuffer, WrongBuffer, FineLabel, FineInstruction, FineCode, WrongLabel, WrongInstruction, WrongCode, FineNames, WrongNames}
 use Rattle.grammar.specs.Kinds.{Kind, mode, Fits, AllFit, Misfit, buffer_kinds, kinds_of}
 use Rattle.grammar.specs.Reading.{Fields}
 use Rattle.grammar.proofs.Lines.{fit-long}

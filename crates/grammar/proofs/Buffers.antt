@@ -1,7 +1,7 @@
 -- The lines before `code`, one by one.
 use Rattle.std.proofs.Common.{◌≡◌, ℕ, ◌+◌, ◌<◌, ◌≤◌, Bool, true, false, cond, ◌||◌, leb, ◌⊎◌, List, [], ◌∷◌, ◌++◌, length, get_or, drop, Some, None, Ok, Err, codes, Decides, Option, Result, sym, refl, ap, ◌∙◌, subst, inl, inr, ⊎_elim, arith, length-drop, below_more}
 use Rattle.std.proofs.lemmas.Slice.Eq.{bytes_eq-Decides}
-use Rattle.std.proofs.lemmas.List.{drop_all, drop_more, drop-drop, length_push, get_or_append_left, get_or_push, get_or-drop}
+use Rattle.std.proofs.lemmas.List.{drop_more, length_push, get_or_append_left, get_or_push}
 use Rattle.std.proofs.lemmas.Bool.{cond-true, cond-false, cases_Bool, or_left, cond_both, both_ways, leb-true, leb-false}
 use Rattle.std.specs.Str.{bytes_eq}
 use Rattle.lexer.specs.declared.place.Place.{Place}
@@ -19,12 +19,11 @@ use Rattle.syntax.specs.declared.fault.LineFault.{LineFault}
 use Rattle.syntax.specs.declared.fault.LineFault.TheVariants.{Field, Heading, Form}
 use Rattle.syntax.specs.declared.statement.Header.{Header}
 use Rattle.syntax.specs.declared.statement.Header.TheVariants.{Code, Buffer}
-use Rattle.syntax.specs.Operands.{size_of, mode_in, mode_of}
+use Rattle.syntax.specs.Operands.{size_of, mode_of}
 use Rattle.syntax.specs.Statements.{and_then, three, buffer_of, is_code, header_of}
 use Rattle.grammar.specs.declared.fault.ProgramFault.{ProgramFault}
-use Rattle.grammar.specs.declared.fault.ProgramFault.TheVariants.{Line, Repeated, Full}
-use Rattle.grammar.specs.Causes.{field_at, line_at, before, after, has_code, SameBuffer, NoRoom, FineBuffer, WrongBuffer, First}
-use Rattle.grammar.specs.Kinds.{AllFit, buffer_kinds}
+use Rattle.grammar.specs.Causes.{field_at, line_at, before, after, has_code, SameBuffer, FineBuffer, WrongBuffer, First}
+use Rattle.grammar.specs.Kinds.{buffer_kinds}
 use Rattle.grammar.specs.Links.{is_writable}
 use Rattle.grammar.specs.Names.{Entry, is_known}
 use Rattle.grammar.specs.Reading.{Fields, Heads, first_place, entry, record_at, headed, buffers_from}

@@ -1,9 +1,8 @@
 -- The lines after `code`, one by one: their forms, their labels, and how many instructions they are.
-use Rattle.std.proofs.Common.{◌≡◌, ℕ, zero, suc, ◌+◌, ◌-◌, ◌<◌, ◌≤◌, Bool, true, false, cond, leb, ◌⊎◌, List, [], ◌∷◌, ◌++◌, length, get_or, take, drop, Ok, Err, codes, Decides, Result, sym, refl, ap, ◌∙◌, subst, inl, inr, ⊎_elim, arith, length-drop, below_more}
-use Rattle.std.proofs.lemmas.List.{drop_all, drop_more, take_more, take_all, length_push, get_or_append_left, get_or_push}
-use Rattle.std.proofs.lemmas.Bool.{cond-true, cond-false, cases_Bool, cases_lt, cond_both, both_ways, leb-true, leb-false}
+use Rattle.std.proofs.Common.{◌≡◌, ℕ, ◌+◌, ◌-◌, ◌<◌, ◌≤◌, Bool, true, false, cond, leb, List, [], ◌∷◌, ◌++◌, length, get_or, take, drop, Ok, Err, codes, Decides, Result, sym, refl, ap, ◌∙◌, subst, inl, inr, ⊎_elim, arith, below_more}
+use Rattle.std.proofs.lemmas.List.{take_more, take_all, length_push, get_or_append_left, get_or_push}
+use Rattle.std.proofs.lemmas.Bool.{cond-true, cond-false, cases_lt, cond_both, both_ways, leb-true, leb-false}
 use Rattle.lexer.specs.declared.fault.FieldFault.TheVariants.{Character, Kind as WrongKind}
-use Rattle.lexer.specs.Characters.{is_name}
 use Rattle.lexer.specs.Lines.{Piece}
 use Rattle.syntax.specs.declared.fault.LineFault.{LineFault}
 use Rattle.syntax.specs.declared.fault.LineFault.TheVariants.{Field, Heading, Form}
@@ -11,12 +10,12 @@ use Rattle.syntax.specs.declared.statement.Instruction.{Instruction}
 use Rattle.syntax.specs.declared.statement.Statement.{Statement}
 use Rattle.syntax.specs.declared.statement.Statement.TheVariants.{Label, Instruction as Instructs}
 use Rattle.grammar.specs.declared.fault.ProgramFault.{ProgramFault}
-use Rattle.grammar.specs.Causes.{field_at, line_at, is_label, label_name, instructions, number_at, SameLabel, NoRoom, FineCode, WrongCode, First}
+use Rattle.grammar.specs.Causes.{field_at, line_at, is_label, label_name, instructions, number_at, SameLabel, FineCode, WrongCode, First}
 use Rattle.grammar.specs.Names.{Entry, is_known}
 use Rattle.grammar.specs.Reading.{Fields, Survey, first_place, entry, is_ret, said, surveyed, survey_from}
 use Rattle.grammar.proofs.Buffers.{cons_tail, nil_end}
-use Rattle.grammar.proofs.Lines.{SaysCode, label_piece, code_says}
-use Rattle.grammar.proofs.Lookups.{no_entry, HasName, known_some, unknown-none}
+use Rattle.grammar.proofs.Lines.{SaysCode, code_says}
+use Rattle.grammar.proofs.Lookups.{no_entry, known_some, unknown-none}
 use Rattle.grammar.proofs.Shapes.{ret_decides}
 
 -- ── counting ──

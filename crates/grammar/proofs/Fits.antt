@@ -1,18 +1,15 @@
 -- What the reading of a field says of its kind.
-use Rattle.std.proofs.Common.{◌≡◌, ℕ, suc, ◌+◌, ◌-◌, ◌^◌, ◌<◌, ◌≤◌, Bool, true, false, cond, ◌&&◌, eqb, ltb, leb, ◌⊎◌, List, [], ◌∷◌, length, get_or, ℤ, pos, negsuc, Some, None, Ok, Err, codes, Option, Result, sym, refl, ap, ◌∙◌, subst, inl, inr, ⊎_elim, arith}
+use Rattle.std.proofs.Common.{◌≡◌, ℕ, suc, ◌+◌, ◌-◌, ◌^◌, ◌≤◌, true, ◌&&◌, eqb, ltb, leb, ◌⊎◌, List, [], ◌∷◌, get_or, ℤ, pos, negsuc, Some, None, Ok, Err, codes, Option, Result, sym, refl, ap, ◌∙◌, subst, inl, inr, ⊎_elim, arith}
 use Rattle.std.proofs.lemmas.Slice.Eq.{bytes_eq-Decides}
-use Rattle.std.proofs.lemmas.Bool.{cond-true, cond-false, cases_Bool, and_parts, and_from, eqb-true, leb-true, leb-false, ltb-true, ltb-false, lt-ltb, le-leb, eq-eqb, both_ways}
+use Rattle.std.proofs.lemmas.Bool.{cond-true, cond-false, cases_Bool, and_parts, and_from, eqb-true, leb-true, ltb-true, ltb-false, le-leb, both_ways}
 use Rattle.std.proofs.lemmas.Bool.Decides.{nat_tests}
 use Rattle.std.specs.Str.{bytes_eq}
-use Rattle.lexer.specs.declared.place.Place.{Place}
 use Rattle.lexer.specs.declared.fault.FieldFault.{FieldFault}
 use Rattle.lexer.specs.declared.fault.FieldFault.TheVariants.{Kind as WrongKind}
 use Rattle.lexer.specs.Characters.{is_name}
 use Rattle.lexer.specs.Fields.{or_kind, named_in, is_register, register_in}
 use Rattle.lexer.specs.Lines.{Piece}
 use Rattle.lexer.specs.Numbers.{number, word_of, size_of as size_in, constant_in, and_then}
-use Rattle.rule.specs.declared.record.Mode.{Mode}
-use Rattle.rule.specs.declared.record.Operand.{Operand}
 use Rattle.syntax.specs.Operands.{register_of, either_of, operand_in, operand_of, size_of, mode_in, mode_of}
 use Rattle.grammar.specs.Kinds.{Kind, name, size, mode, register, value, IsRegister, InLimits, IsConstant, Fits}
 
@@ -127,17 +124,17 @@ size_fits n =
 same-natural : (m n : ℕ) → pos m ≡ pos n → m ≡ n
 same-natural m n e = cc
 
-size_of : (bs : List ℕ) (o : Option ℤ) → number bs ≡ o → Tells size bs (and_then o size_in)
-size_of bs None e = inr (λ c. no_number _ (pos c.0) e c.1, refl)
-size_of bs (Some (negsuc n)) e = inr (λ c. let x : negsuc n ≡ pos c.0 = same_number _ (negsuc n) (pos c.0) e c.1 in let y : ◌≡◌ {A = ℕ} 0 1 = cc in omega arith, refl)
-size_of bs (Some (pos n)) e =
+size_of_number : (bs : List ℕ) (o : Option ℤ) → number bs ≡ o → Tells size bs (and_then o size_in)
+size_of_number bs None e = inr (λ c. no_number _ (pos c.0) e c.1, refl)
+size_of_number bs (Some (negsuc n)) e = inr (λ c. let x : negsuc n ≡ pos c.0 = same_number _ (negsuc n) (pos c.0) e c.1 in let y : ◌≡◌ {A = ℕ} 0 1 = cc in omega arith, refl)
+size_of_number bs (Some (pos n)) e =
     ⊎_elim
     (λ h. inl (n, (n, e, h.0, h.1), h.2))
     (λ h. inr (λ c. let same = same-natural c.0 n (same_number _ (pos c.0) (pos n) c.1 e) in h.0 (omega (arith, c.2), omega (arith, c.3)), h.1))
     (size_fits n)
 
 pub size-reads : (p : Piece) → Reads size p (size_of p)
-size-reads p = reads-from size p _ (size_of p.bytes (number p.bytes) refl)
+size-reads p = reads-from size p _ (size_of_number p.bytes (number p.bytes) refl)
 
 mode_tells : (bs : List ℕ) → Tells mode bs (mode_in bs)
 mode_tells bs =

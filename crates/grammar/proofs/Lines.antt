@@ -1,10 +1,8 @@
 -- What a heading, a buffer's line and a line of the code say.
-use Rattle.std.proofs.Common.{◌≡◌, ℕ, suc, ◌+◌, ◌-◌, Bool, true, false, cond, ◌&&◌, eqb, ◌⊎◌, List, [], ◌∷◌, length, drop, Some, None, Ok, Err, codes, Decides, Option, Result, sym, refl, ap, ◌∙◌, subst, inl, inr, ⊎_elim, arith}
+use Rattle.std.proofs.Common.{◌≡◌, ℕ, suc, Bool, true, false, ◌&&◌, eqb, ◌⊎◌, List, [], ◌∷◌, length, drop, Some, None, Ok, Err, codes, Decides, Option, Result, refl, ap, ◌∙◌, inl, inr, arith}
 use Rattle.std.proofs.lemmas.Slice.Eq.{bytes_eq-Decides}
-use Rattle.std.proofs.lemmas.Bool.{cond_both, both_ways}
+use Rattle.std.proofs.lemmas.Bool.{cond_both}
 use Rattle.std.proofs.lemmas.Bool.Decides.{nat_tests, Decides-and}
-use Rattle.std.specs.Str.{bytes_eq}
-use Rattle.lexer.specs.declared.place.Place.{Place}
 use Rattle.lexer.specs.declared.fault.FieldFault.{FieldFault}
 use Rattle.lexer.specs.declared.fault.FieldFault.TheVariants.{Character, Kind as WrongKind}
 use Rattle.lexer.specs.Characters.{is_name}
@@ -18,8 +16,8 @@ use Rattle.syntax.specs.declared.statement.Statement.{Statement}
 use Rattle.syntax.specs.declared.statement.Statement.TheVariants.{Label, Instruction as Instructs}
 use Rattle.syntax.specs.Statements as syntax
 use Rattle.syntax.specs.Statements.{is_heading, are_heading, known_of, instruction_of, labels, instructs, statement_of}
-use Rattle.syntax.specs.Words.{word_of, mnemonic_in}
-use Rattle.grammar.specs.Causes.{field_at, IsHeading, is_label, label_name, HasForm, IsInstruction}
+use Rattle.syntax.specs.Words.{mnemonic_in}
+use Rattle.grammar.specs.Causes.{IsHeading, is_label, label_name, HasForm, IsInstruction}
 use Rattle.grammar.specs.Kinds.{Kind, AllFit, Misfit, kinds_of}
 use Rattle.grammar.specs.Reading.{Fields, first_place, said}
 use Rattle.grammar.proofs.Forms.{SaysLine, instruction_says}

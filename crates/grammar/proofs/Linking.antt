@@ -1,8 +1,7 @@
 -- The lines after `code` once more, with their names resolved.
-use Rattle.std.proofs.Common.{◌≡◌, ℕ, ◌+◌, ◌<◌, ◌≤◌, Bool, true, false, cond, ◌&&◌, ltb, ◌⊎◌, List, [], ◌∷◌, ◌++◌, length, get_or, drop, Some, None, Ok, Err, codes, Option, Result, sym, refl, ap, ◌∙◌, subst, inl, inr, ⊎_elim, arith, below_more}
+use Rattle.std.proofs.Common.{◌≡◌, ℕ, ◌+◌, ◌<◌, ◌≤◌, Bool, true, false, ◌&&◌, ltb, List, [], ◌∷◌, ◌++◌, length, get_or, drop, Some, None, Ok, Err, codes, Option, Result, sym, refl, ap, ◌∙◌, subst, inl, inr, ⊎_elim, arith, below_more}
 use Rattle.std.proofs.lemmas.List.{length_push}
 use Rattle.std.proofs.lemmas.Bool.{cond_both, both_ways, and_parts, and_from, ltb-true, lt-ltb}
-use Rattle.lexer.specs.declared.place.Place.{Place}
 use Rattle.lexer.specs.declared.fault.FieldFault.TheVariants.{Character, Kind as WrongKind}
 use Rattle.lexer.specs.Lines.{Piece}
 use Rattle.rule.specs.declared.record.Item.{Item}
@@ -10,25 +9,24 @@ use Rattle.rule.specs.declared.record.Record.{Record}
 use Rattle.rule.specs.Records.{blank}
 use Rattle.syntax.specs.declared.fault.LineFault.{LineFault}
 use Rattle.syntax.specs.declared.fault.LineFault.TheVariants.{Field, Heading, Form}
-use Rattle.syntax.specs.declared.mnemonic.Mnemonic.{Mnemonic}
 use Rattle.syntax.specs.declared.statement.Instruction.{Instruction}
 use Rattle.syntax.specs.declared.statement.Instruction.TheVariants.{Mov, Alu, Load, Store, Jump, Branch, Ret}
 use Rattle.syntax.specs.declared.statement.Statement.{Statement}
 use Rattle.syntax.specs.declared.statement.Statement.TheVariants.{Label, Instruction as Instructs}
 use Rattle.grammar.specs.declared.fault.ProgramFault.{ProgramFault}
-use Rattle.grammar.specs.declared.fault.ProgramFault.TheVariants.{Line, Unknown, Backward, ReadOnly}
-use Rattle.grammar.specs.Causes.{field_at, line_at, is_label, label_name, instructions, number_at, FineBuffer, FineCode, source_of, sink_of, target_of, mnemonic_of, Loads, Stores, Jumps, Declares, Stands, Later, FineNames, WrongNames, First}
-use Rattle.grammar.specs.Links.{Scope, Found, is_writable, loadable, storable, reachable, source, sink, target, with, item_of}
+use Rattle.grammar.specs.declared.fault.ProgramFault.TheVariants.{Line, Backward, ReadOnly}
+use Rattle.grammar.specs.Causes.{field_at, line_at, is_label, instructions, number_at, source_of, sink_of, target_of, mnemonic_of, Declares, Stands, FineNames, WrongNames, First}
+use Rattle.grammar.specs.Links.{Scope, Found, is_writable, loadable, storable, reachable, with, item_of}
 use Rattle.grammar.specs.Names.{Entry, number_of}
 use Rattle.grammar.specs.Reading.{Fields, first_place, record_at, said, and_then, linked, link_from}
-use Rattle.grammar.proofs.Blames.{code-blamed, one-buffer, one_label, mode-fits}
+use Rattle.grammar.proofs.Blames.{code-blamed, one_label, mode-fits}
 use Rattle.grammar.proofs.Buffers as buffers
 use Rattle.grammar.proofs.Buffers.{cons_tail, nil_end}
 use Rattle.grammar.proofs.Codes as code
 use Rattle.grammar.proofs.Codes.{number-label, number-instruction, number-all}
 use Rattle.grammar.proofs.Lines.{SaysCode, code_says}
-use Rattle.grammar.proofs.Lookups.{no_entry, number-some, number-none}
-use Rattle.grammar.proofs.Shapes.{Shape, source_name, sink_name, target_name, instruction-own}
+use Rattle.grammar.proofs.Lookups.{number-some, number-none}
+use Rattle.grammar.proofs.Shapes.{source_name, sink_name, target_name, instruction-own}
 
 -- the scope is that of the lines: all of them are fine, and it has their buffers and labels
 pub record Scoped (ds cs : List Fields) (s : Scope) : Type 0 where

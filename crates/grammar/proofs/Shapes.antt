@@ -1,13 +1,10 @@
 -- An instruction that is read is the one that its line writes: the same word, and the same names.
-use Rattle.std.proofs.Common.{◌≡◌, ℕ, Bool, true, false, cond, eqb, ◌⊎◌, List, [], ◌∷◌, length, Some, None, Ok, Err, codes, Decides, Option, Result, sym, refl, ap, ◌∙◌, subst, ⊎_elim, arith}
+use Rattle.std.proofs.Common.{◌≡◌, ℕ, Bool, true, false, eqb, List, [], ◌∷◌, length, Some, None, Ok, Err, codes, Decides, Option, Result, sym, refl, ap, ◌∙◌, ⊎_elim, arith}
 use Rattle.std.proofs.lemmas.Bool.{cond-true, cond-false, cases_Bool, both_ways}
-use Rattle.words.specs.declared.operation.Operation.{Operation}
-use Rattle.words.specs.declared.width.Width.{Width}
 use Rattle.lexer.specs.declared.place.Place.{Place}
 use Rattle.lexer.specs.declared.fault.FieldFault.{FieldFault}
 use Rattle.lexer.specs.Fields.{named_in, unmarked}
 use Rattle.lexer.specs.Lines.{Piece}
-use Rattle.rule.specs.declared.record.Condition.{Condition}
 use Rattle.syntax.specs.declared.fault.LineFault.{LineFault}
 use Rattle.syntax.specs.declared.fault.LineFault.TheVariants.{Form}
 use Rattle.syntax.specs.declared.mnemonic.Mnemonic.{Mnemonic}

@@ -1,5 +1,5 @@
 -- What the definition of a reading says in the words of the language.
-use Rattle.std.proofs.Common.{◌≡◌, ℕ, ◌+◌, ◌-◌, ◌<◌, ◌≤◌, min, Bool, true, false, cond, ◌||◌, ltb, ◌⊎◌, List, [], ◌∷◌, length, get_or, drop, is_ok, Some, None, Ok, Err, codes, Option, Result, sym, refl, ap, ◌∙◌, subst, inl, inr, ⊎_elim, arith}
+use Rattle.std.proofs.Common.{◌≡◌, ℕ, ◌+◌, ◌-◌, ◌<◌, true, false, ltb, ◌⊎◌, List, [], ◌∷◌, length, drop, is_ok, Some, None, Ok, Err, Option, Result, sym, refl, ap, ◌∙◌, subst, inl, inr, ⊎_elim, arith}
 use Rattle.std.proofs.lemmas.Bool.{cond-true, cond-false, cases_Bool, cases_lt, cond_both, both_ways, or_parts, ltb-true, ltb-false}
 use Rattle.lexer.specs.declared.place.Place.{Place}
 use Rattle.lexer.specs.declared.fault.FieldFault.TheVariants.{Character, Kind as WrongKind}
@@ -11,9 +11,8 @@ use Rattle.syntax.specs.Statements.{is_code, is_heading}
 use Rattle.grammar.specs.declared.fault.ProgramFault.{ProgramFault}
 use Rattle.grammar.specs.declared.fault.ProgramFault.TheVariants.{Line, TooLong, Repeated, Full, Unknown, Backward, ReadOnly, Unclosed}
 use Rattle.grammar.specs.declared.shape.Shape.{Shape}
-use Rattle.grammar.specs.Causes.{Long, NoneForeign, IsHeading, heading_place, field_at, line_at, before, after, has_code, is_label, instructions, number_at, FineBuffer, WrongBuffer, FineCode, WrongCode, FineNames, WrongNames, last_line, Open, no_code, no_instruction, no_ret, label-last, body, buffer_lines, code_lines, buffer_room, code_room, Headed, Formed, Named, Unblamed, First, AtBuffer, AtCode, AtNames, Refused, Judged}
-use Rattle.grammar.specs.Links.{Scope}
-use Rattle.grammar.specs.Reading.{Fields, Heads, Survey, Program, first_place, and_then, buffers_from, survey_from, link_from, scope_of, closing, code_of, coded, body_of, program_of, clean, reading, shape_of}
+use Rattle.grammar.specs.Causes.{Long, NoneForeign, IsHeading, heading_place, line_at, after, has_code, is_label, instructions, number_at, FineNames, last_line, Open, no_code, no_instruction, no_ret, label-last, body, buffer_lines, code_lines, buffer_room, code_room, Headed, Named, Unblamed, AtBuffer, AtCode, AtNames, Refused, Judged}
+use Rattle.grammar.specs.Reading.{Fields, Heads, Survey, Program, and_then, link_from, scope_of, closing, code_of, coded, body_of, program_of, clean, reading, shape_of}
 use Rattle.grammar.proofs.Blames.{buffer-blamed, code-blamed, names-blamed}
 use Rattle.grammar.proofs.Buffers as buffers
 use Rattle.grammar.proofs.Bytes.{foreign-none, first-foreign}

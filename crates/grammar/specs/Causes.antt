@@ -1,5 +1,5 @@
 -- Why a text is refused, in the words of the language: each cause is a statement on the text.
-use Rattle.std.specs.Prelude.{◌≡◌, ℕ, ◌+◌, ◌-◌, ◌<◌, ◌≤◌, min, Bool, true, false, cond, not, ◌&&◌, ◌||◌, ◌⊎◌, List, [], ◌∷◌, length, take, drop, Some, None, Ok, Err, codes, Option, Result, ◌==◌, ◌≢◌, slice_index, slice_index_or}
+use Rattle.std.specs.Prelude.{◌≡◌, ℕ, ◌+◌, ◌-◌, ◌<◌, ◌≤◌, min, Bool, true, false, cond, ◌&&◌, ◌||◌, ◌⊎◌, List, [], ◌∷◌, length, take, drop, Some, None, Ok, Err, codes, Option, Result, ◌==◌, ◌≢◌, slice_index, slice_index_or}
 use Rattle.lexer.specs.declared.place.Place.{Place}
 use Rattle.lexer.specs.declared.fault.FieldFault.TheVariants.{Character, Kind as WrongKind}
 use Rattle.lexer.specs.Characters.{is_name}
@@ -12,7 +12,7 @@ use Rattle.syntax.specs.Statements.{is_code}
 use Rattle.syntax.specs.Words.{word_of, mnemonic_in}
 use Rattle.grammar.specs.declared.fault.ProgramFault.{ProgramFault}
 use Rattle.grammar.specs.declared.fault.ProgramFault.TheVariants.{Line, TooLong, Repeated, Full, Unknown, Backward, ReadOnly, Unclosed}
-use Rattle.grammar.specs.Kinds.{Kind, Fits, AllFit, Misfit, buffer_kinds, kinds_of}
+use Rattle.grammar.specs.Kinds.{AllFit, Misfit, buffer_kinds, kinds_of}
 use Rattle.grammar.specs.Reading.{Fields, first_place}
 
 -- ── the text and its characters ──

@@ -1,12 +1,11 @@
 -- A text is cut at places: what its rows and a row's pieces then are. Assumes nothing.
-use Rattle.std.proofs.Common.{◌≡◌, ℕ, zero, suc, ◌+◌, ◌-◌, ◌<◌, ◌≤◌, Bool, true, false, cond, not, eqb, List, [], ◌∷◌, length, get_or, take, drop, sym, refl, ap, ◌∙◌, subst, ⊎_elim, arith, length-drop}
+use Rattle.std.proofs.Common.{◌≡◌, ℕ, zero, suc, ◌+◌, ◌-◌, ◌<◌, ◌≤◌, Bool, true, false, cond, eqb, List, [], ◌∷◌, length, get_or, take, drop, sym, ap, ◌∙◌, ⊎_elim, arith, length-drop}
 use Rattle.std.proofs.lemmas.List.{at_drop_more, at_drop_all, drop_more, length-take-le, drop-take, take-take}
 use Rattle.std.proofs.lemmas.Bool.{cases_lt, cond_both}
 use Rattle.std.proofs.lemmas.Bool.Decides.{nat_tests}
-use Rattle.lexer.specs.declared.place.Place.{Place}
 use Rattle.lexer.specs.Characters.{field_byte}
 use Rattle.std.proofs.lemmas.Slice.{between_is}
-use Rattle.lexer.specs.Lines.{Row, Piece, row, piece, pieces_from, rows_from, longer, joined_to, goes_on}
+use Rattle.lexer.specs.Lines.{Piece, row, piece, pieces_from, rows_from, longer, joined_to, goes_on}
 
 pub pieces_more : (t : List ℕ) (n at : ℕ) → at < length t → pieces_from n at (drop at t) ≡ cond (eqb (get_or t at 0) 35) [] (cond (eqb (get_or t at 0) 32) (pieces_from n (at + 1) (drop (at + 1) t)) (joined_to n at (get_or t at 0) (goes_on (drop (at + 1) t)) (pieces_from n (at + 1) (drop (at + 1) t))))
 pieces_more t n at h = at_drop_more (pieces_from n at) t at 0 h

@@ -1,7 +1,6 @@
 -- One byte on, for each definition that reads a text from its front. Assumes nothing.
-use Rattle.std.proofs.Common.{◌≡◌, ℕ, ◌+◌, ◌-◌, ◌*◌, ◌^◌, ◌<◌, ◌≤◌, min, Bool, true, false, cond, ◌&&◌, eqb, List, [], ◌∷◌, length, get_or, drop, Some, None, Option, sym, refl, ap, ◌∙◌, arith}
+use Rattle.std.proofs.Common.{◌≡◌, ℕ, ◌+◌, ◌-◌, ◌*◌, ◌^◌, ◌<◌, ◌≤◌, min, Bool, true, cond, ◌&&◌, eqb, List, [], ◌∷◌, length, get_or, drop, Some, None, arith}
 use Rattle.std.proofs.lemmas.List.{at_drop_more, at_drop_all}
-use Rattle.lexer.specs.declared.place.Place.{Place}
 use Rattle.lexer.specs.Characters.{printable, all}
 use Rattle.lexer.specs.Foreign.{foreign_from}
 use Rattle.lexer.specs.Numbers.{value_from}

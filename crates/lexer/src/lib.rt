@@ -1,6 +1,8 @@
 //! A text as characters, lines and fields: the two lowest layers of reading a rule.
 //! Nothing is copied: a line and a field are parts of the borrowed text, each with its place.
 
+#![tactic(auto)]
+
 mod class;
 mod fault;
 mod field;

@@ -1,5 +1,7 @@
 //! What a line of a rule says: its heading, a buffer, a label or an instruction. The third layer of reading a rule.
 
+#![tactic(auto)]
+
 mod fault;
 mod fields;
 mod header;

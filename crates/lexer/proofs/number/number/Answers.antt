@@ -1,4 +1,4 @@
-use Rattle.std.proofs.Common.{◌≡◌, Some, None, sym, refl, ap, ◌∙◌, arith, rules}
+use Rattle.std.proofs.Common.{Some, None, ap, ◌∙◌, arith}
 use Rattle.std.proofs.lemmas.Int.{ints}
 use Rattle.std.proofs.lemmas.Bool.Decides.{nat_tests}
 use Rattle.std.proofs.lemmas.List.{get_or_past}
@@ -13,7 +13,7 @@ returns-in-Some c =
 pub returns-in-None : goal.returns-in-None
 returns-in-None c = number_neg c.args.text.now None c.if-text-eq45.true c.in-None.ensures.value
 
-pub returns-in-Some-natural-capped : goal.returns-in-Some-natural-capped
-returns-in-Some-natural-capped c =
-    let b = c.in-Some-natural-capped.ensures.bound in
-    ap Some (omega (arith, ints)) ∙ number_pos c.args.text.now (Some c.in-Some-natural-capped.n) (λ h. grind (arith, nat_tests, get_or_past c.args.text.now 0 0)) c.in-Some-natural-capped.ensures.value
+pub returns-in-Some-natural_capped : goal.returns-in-Some-natural_capped
+returns-in-Some-natural_capped c =
+    let b = c.in-Some-natural_capped.ensures.bound in
+    ap Some (omega (arith, ints)) ∙ number_pos c.args.text.now (Some c.in-Some-natural_capped.n) (λ h. grind (arith, nat_tests, get_or_past c.args.text.now 0 0)) c.in-Some-natural_capped.ensures.value

@@ -8,11 +8,11 @@ returns-then-from-text c = search (rules, rows_all)
 
 pub returns : goal.returns
 returns c =
-    let run = c.line-end-end.ensures in
+    let run = c.line_end-end.ensures in
     record {
-      cases = row_cut c.args.self.now.text.now c.args.self.now.number c.args.self.now.at c.line-end-end.result c.if-end-text.self (omega arith) run.forward run.within run.all run.stops (λ h. search rules) (λ h. search rules);
+      cases = row_cut c.args.self.now.text.now c.args.self.now.number c.args.self.now.at c.line_end-end.result c.if-end-text.self (omega arith) run.forward run.within run.all run.stops (λ h. search rules) (λ h. search rules);
       same = refl;
       forward = search rules;
-      part = ap (λ n. take n c.args.self.now.text.now) (sym (length-take-le c.line-end-end.result c.args.self.now.text.now run.within));
+      part = ap (λ n. take n c.args.self.now.text.now) (sym (length-take-le c.line_end-end.result c.args.self.now.text.now run.within));
       within = (refl, simp length-take (search rules), search rules);
     }
