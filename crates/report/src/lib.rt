@@ -1,5 +1,6 @@
 //! Printing into an output that the caller lends: the reports of a check, or the fault of a text. All of it is printed, or
 //! nothing.
+#![tactic(auto)]
 
 mod fault;
 mod line;

@@ -1,4 +1,4 @@
-use Rattle.std.proofs.Common.{◌≡◌, ℕ, ◌+◌, ◌-◌, ◌≤◌, List, ◌++◌, length, drop, ap, arith, length-append}
+use Rattle.std.proofs.Common.{◌≡◌, ℕ, ◌+◌, ◌-◌, ◌≤◌, List, ◌++◌, length, ap, arith, length-append}
 use borrow.Author.Tests.{le-true, lt-false}
 use Rattle.std.proofs.lemmas.List.{at_drop_all}
 use Rattle.report.specs.Lines.{rows_text}
