@@ -1,8 +1,7 @@
 -- One buffer more.
-use Rattle.std.proofs.Common.{◌≡◌, ℕ, ◌+◌, ◌<◌, ◌≤◌, min, Bool, true, false, cond, leb, List, [], ◌∷◌, ◌++◌, length, take, drop, set, Ok, Err, Result, sym, refl, ap, ◌∙◌, arith, length-set}
+use Rattle.std.proofs.Common.{◌≡◌, ℕ, ◌+◌, ◌<◌, min, false, leb, List, [], ◌∷◌, ◌++◌, length, take, drop, set, Ok, Result, sym, ap, ◌∙◌, arith, length-set}
 use Rattle.std.proofs.lemmas.List.{take_more_set, length-take-le, drop-set-lt, drop-drop}
 use Rattle.std.proofs.lemmas.Bool.{cond-false, lt-leb}
-use Rattle.lexer.specs.declared.place.Place.{Place}
 use Rattle.lexer.specs.Lines.{Piece}
 use Rattle.rule.specs.declared.record.Mode.{Mode}
 use Rattle.rule.specs.declared.record.Item.TheVariants.{Buffer as IsBuffer}

@@ -1,5 +1,5 @@
 -- One instruction more.
-use Rattle.std.proofs.Common.{◌≡◌, ℕ, ◌+◌, ◌<◌, ◌≤◌, List, [], ◌∷◌, ◌++◌, length, take, set, Ok, Result, sym, ap, ◌∙◌, arith, length-set}
+use Rattle.std.proofs.Common.{◌≡◌, ℕ, ◌+◌, ◌<◌, ◌≤◌, List, [], ◌∷◌, ◌++◌, length, take, set, Ok, Err, Result, sym, ap, ◌∙◌, arith}
 use Rattle.std.proofs.lemmas.List.{take_more_set, length-take-le}
 use Rattle.lexer.specs.Lines.{Piece}
 use Rattle.rule.specs.declared.record.Item.{Item}
@@ -25,6 +25,15 @@ link_step s rs k r lines rest l i item inrs is says made whole =
     ∙ ap (λ x. link_from s (take k rs ++ x ∷ []) rest) whole
     ∙ link_more s (take k rs) l rest i item says (made ∙ ap (λ n. item_of s n i) (sym long))
     ∙ ap (link_from s (take k rs)) (sym is)
+
+-- an instruction whose names don't resolve
+pub link_fails : (s : Scope) (rs : List Record) (k : ℕ) (lines rest : List Fields) (l : Fields) (i : Instruction Piece) (f : ProgramFault) → k ≤ length rs → lines ≡ l ∷ rest → Ok (Instructs i) ≡ said l → Err f ≡ item_of s k i → link_from s (take k rs) lines ≡ Err f
+link_fails s rs k lines rest l i f inrs is says fault =
+    let long : length (take k rs) ≡ k = length-take-le k rs inrs in
+    ap (link_from s (take k rs)) is
+    ∙ ap (λ (x : Result (Statement Piece) LineFault). linked s (take k rs) (first_place l) (λ rs'. link_from s rs' rest) x) (sym says)
+    ∙ ap (λ n. and_then (item_of s n i) (λ item. link_from s (take k rs ++ record_at (first_place l) item ∷ []) rest)) long
+    ∙ ap (λ (x : Result Item ProgramFault). and_then x (λ item. link_from s (take k rs ++ record_at (first_place l) item ∷ []) rest)) (sym fault)
 
 -- the lines after an instruction have one instruction less
 pub one_less : (lines rest : List Fields) (l : Fields) (i : Instruction Piece) → lines ≡ l ∷ rest → Ok (Instructs i) ≡ said l → instructions_in lines ≡ 1 + instructions_in rest

@@ -1,8 +1,7 @@
 -- One mark more.
-use Rattle.std.proofs.Common.{◌≡◌, ℕ, ◌+◌, ◌-◌, ◌<◌, ◌≤◌, List, [], ◌∷◌, ◌++◌, map, length, get_or, take, drop, set, sym, refl, ap, ◌∙◌, subst, ⊎_elim, arith, length-set, length-take}
-use Rattle.std.proofs.lemmas.List.{take_more_set, length-take-le, length_push, map_push, get_or_append_left, get_or_push, take-take}
+use Rattle.std.proofs.Common.{◌≡◌, ℕ, ◌+◌, ◌-◌, ◌<◌, ◌≤◌, List, [], ◌∷◌, ◌++◌, length, take, drop, set, sym, ap, ◌∙◌, subst, ⊎_elim, arith}
+use Rattle.std.proofs.lemmas.List.{take_more_set, length_push, map_push, get_or_append_left, get_or_push}
 use Rattle.std.proofs.lemmas.Bool.{cases_lt}
-use Rattle.lexer.specs.Lines.{Piece}
 use Rattle.reader.specs.declared.mark.Mark.{Mark}
 use Rattle.grammar.specs.Names.{Entry}
 use Rattle.reader.specs.Marked.{entry_of, entries_of, no_mark, Within}

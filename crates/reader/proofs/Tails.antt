@@ -1,5 +1,5 @@
 -- A table whose end is written, as a part of its own.
-use Rattle.std.proofs.Common.{◌≡◌, ℕ, ◌+◌, ◌-◌, ◌<◌, ◌≤◌, List, [], ◌∷◌, ◌++◌, length, take, drop, IfOk, Ok, Err, Result, sym, ap, ◌∙◌, append-nil, arith, length-drop, MatchResult}
+use Rattle.std.proofs.Common.{◌≡◌, ℕ, ◌+◌, ◌-◌, ◌≤◌, List, [], ◌++◌, length, take, drop, IfOk, Ok, Err, Result, sym, ap, ◌∙◌, append-nil, arith, length-drop, MatchResult}
 use borrow.Rule.Slice.PartMut.{put_mid}
 use Rattle.std.proofs.lemmas.List.{take_rest, length-take-le, drop_at, drop_all, drop-drop}
 use Rattle.rule.specs.declared.record.Record.{Record}

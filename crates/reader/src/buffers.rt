@@ -28,7 +28,7 @@ pub(crate) fn read_buffers(
     requires same { lexer.old.text.now ≡ text.now }
     requires eight { length names.old ≡ 8 }
     ensures cases { MatchResult result
-        (λ h. buffers_from (min 8 (length table.old)) [] [] (lines_of lexer.old) ≡ Ok (record { names = entries_of text.now (take h.count names.exit.now); records = take h.count table.new; code = code_in h.coded lexer.new }))
+        (λ h. buffers_from (min 8 (length table.old)) [] [] (lines_of lexer.old) ≡ Ok (record { names = entries_of text.now (take h.count names.new); records = take h.count table.new; code = code_in h.coded lexer.new }))
         (λ f. buffers_from (min 8 (length table.old)) [] [] (lines_of lexer.old) ≡ Err f) }
     ensures within { MatchResult result
         (λ h. (h.count ≤ 8) × (h.count ≤ length table.old) × Within text.now (take h.count names.new))

@@ -1,5 +1,7 @@
 //! Reads the text of a rule into a table of records. The fourth layer: what holds of the text as a whole.
 
+#![tactic(auto)]
+
 mod buffers;
 mod code;
 mod link;

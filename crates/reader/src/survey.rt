@@ -37,7 +37,7 @@ pub(crate) fn survey_code(
     requires enough { length labels.old ≡ 4096 }
     requires few { room ≤ 96 }
     ensures cases { MatchResult result
-        (λ s. survey_from room [] 0 false (lines_of lexer.entry) ≡ Ok (record { labels = entries_of text.now (take s.labels labels.exit.now); count = s.instructions; closed = s.closed }))
+        (λ s. survey_from room [] 0 false (lines_of lexer.entry) ≡ Ok (record { labels = entries_of text.now (take s.labels labels.new); count = s.instructions; closed = s.closed }))
         (λ f. survey_from room [] 0 false (lines_of lexer.entry) ≡ Err f) }
     ensures within { IfOk result (λ s. (s.labels ≤ 4096) × (s.instructions ≤ room) × Within text.now (take s.labels labels.new)) }
 {

@@ -1,6 +1,8 @@
 //! Tests of the reader where its rules begin and end: the longest texts and numbers, the fullest tables, the last place a label may stand.
 //! Each expected place was counted in the text by hand.
 
+#![tactic(auto)]
+
 #[cfg(test)]
 mod build;
 #[cfg(test)]

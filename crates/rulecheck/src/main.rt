@@ -1,4 +1,7 @@
 //! Reads a rule text from standard input and says what came of it.
+
+#![tactic(auto)]
+
 ghost use Rattle.std.specs.Prelude.{◌≤◌, length, IfOk};
 
 use grammar::Refusal;

@@ -1,4 +1,4 @@
-use Rattle.std.proofs.Common.{◌≡◌, ℕ, length, take, drop, Ok, sym, refl, ap, ◌∙◌, arith, length-set, rules}
+use Rattle.std.proofs.Common.{◌≡◌, length, refl, ap, ◌∙◌, arith, length-set, rules}
 use Rattle.lexer.specs.Fields.{spelled}
 use Rattle.lexer.specs.Lines.{Piece, piece_of}
 use Rattle.reader.proofs.Declares.{buffers-step, rest-step}
@@ -18,7 +18,7 @@ loop-first-preserved c =
     let size = ap length text in (
       omega arith,
       simp length-set (omega arith),
-      c.next-filled.ensures.same ∙ inv.2,
+      c.next_filled.ensures.same ∙ inv.2,
       within_more c.args.text.now c.loop-first.names c.loop-first.count _ (omega arith) inv.3 (record { order = omega (arith, own.0, own.1); end = omega (arith, own.1, line.within) }),
       buffers-step c.args.text.now c.loop-first.names c.loop-first.table c.loop-first.count c.new.result _ _ _ _ (spelled c.in-Buffer.name) c.in-Buffer.size c.in-Buffer.mode (omega arith) (omega arith) (omega arith) line.cases (search rules) (search rules) (entry-part c.args.text.now c.in-Buffer.name.text.now c.new.result c.in-Buffer.name.place.at c.loop-first.count own.0 own.1 own.2 (cc line.part)) refl ∙ inv.4,
       rest-step c.loop-first.table c.args.table.now c.loop-first.count _ inv.5,
