@@ -1,5 +1,5 @@
 -- The laws of ranges.
-use Rattle.std.proofs.Common.{◌≡◌, ℕ, ◌^◌, ◌<◌, ◌≤◌, ◌⊎◌, Decides, arith, rules}
+use Rattle.std.proofs.Common.{ℕ, ◌^◌, ◌<◌, ◌⊎◌, Decides, arith, rules}
 use Rattle.domain.specs.declared.facts.Facts.{Facts}
 use Rattle.domain.specs.Answers.{range_absorbed, range_told}
 use Rattle.domain.specs.Facts.{Meets}
