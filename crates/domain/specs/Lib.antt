@@ -2,4 +2,5 @@ pub mod Answers
 pub mod Facts
 pub mod Lawful
 pub mod Onward
-pub mod TristateDomainLemmas
+pub mod RangeLaws
+pub mod TristateLaws

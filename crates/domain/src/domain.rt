@@ -41,39 +41,39 @@ pub trait Domain: Copy {
 
     /// Every word.
     fn any() -> Self
-        ensures* { λ r. ⌜ r ≡ every ⌝ };
+        ensures { result ≡ every };
 
     /// One word, as tightly as the kind allows.
     fn only(word: u64) -> Self
-        ensures* { λ r. ⌜ r ≡ single word ⌝ };
+        ensures { result ≡ single word };
 
     /// The words of so many low bits, as tightly as the kind allows.
     fn low(width: Width) -> Self
-        ensures* { λ r. ⌜ r ≡ under width ⌝ };
+        ensures { result ≡ under width };
 
     /// Is this word held?
     fn has(self, word: u64) -> bool
-        ensures* { λ r. ⌜ r ≡ member self word ⌝ };
+        ensures { result ≡ member self word };
 
     /// What the operation can make of a word of `a` and one of `b`.
     fn of(operation: Operation, a: Self, b: Self) -> Self
-        ensures* { λ r. ⌜ r ≡ applied operation a b ⌝ };
+        ensures { result ≡ applied operation a b };
 
     /// The words of either side.
     fn join(self, other: Self) -> Self
-        ensures* { λ r. ⌜ r ≡ joined self other ⌝ };
+        ensures { result ≡ joined self other };
 
     /// The words that stand in the relation to some word of `other`.
     fn narrow(self, relation: Relation, other: Self) -> Option<Self>
-        ensures* { λ r. ⌜ r ≡ narrowed relation self other ⌝ };
+        ensures { result ≡ narrowed relation self other };
 
     /// What is told of each word held.
     fn facts(self) -> Facts
-        ensures* { λ r. ⌜ r ≡ told self ⌝ };
+        ensures { result ≡ told self };
 
     /// The words held that meet the facts.
     fn absorb(self, facts: Facts) -> Option<Self>
-        ensures* { λ r. ⌜ r ≡ absorbed self facts ⌝ };
+        ensures { result ≡ absorbed self facts };
 
     // `any` holds every word, `only w` holds w, and `low` every word of the width
     ghost any_holds: { (w : ℕ) → Word w → holds every w };

@@ -1,6 +1,8 @@
 //! What a domain is: values that stand for sets of words, behind one interface with its laws; and
 //! the two domains that facts are made of.
 
+#![tactic(auto)]
+
 mod domain;
 mod facts;
 mod ranges;

@@ -2,10 +2,8 @@ ghost use Rattle.domain.specs.Answers.{range_absorbed, range_told};
 ghost use Rattle.range.specs.Answers.{applied, narrowed};
 ghost use Rattle.range.specs.Ranges.{Within, front, full, hull, member, only};
 ghost use Rattle.words.specs.Widths.{bits_of};
-ghost use Rattle.range.proofs.Laws.{applied-holds, narrowed-holds, span-holds, common_keeps, reach-holds, common-within};
-ghost use Rattle.std.proofs.Common.{arith, rules};
-ghost use Rattle.domain.specs.Onward.{onward-holds, onward-within};
-ghost use Rattle.range.specs.Ranges;
+ghost use Rattle.range.proofs.Laws.{applied-holds, narrowed-holds};
+ghost use Rattle.domain.specs.RangeLaws.{absorbed-holds, absorbed-within, front-holds, full-holds, hull-holds, member-decides, only-holds, told-met};
 
 use super::domain::Domain;
 use super::facts::Facts;
@@ -33,29 +31,25 @@ impl Domain for Range {
 
     ghost absorbed = { range_absorbed };
 
-    ghost any_holds = { Prim.search rules };
+    ghost any_holds = { full-holds };
 
-    ghost only_holds = { Prim.search rules };
+    ghost only_holds = { only-holds };
 
-    ghost low_holds = { Prim.search rules };
+    ghost low_holds = { front-holds };
 
-    ghost has_decides = { Prim.search rules };
+    ghost has_decides = { member-decides };
 
     ghost of_holds = { applied-holds };
 
-    ghost join_holds = { Prim.search rules };
+    ghost join_holds = { hull-holds };
 
     ghost narrow_holds = { narrowed-holds };
 
-    ghost facts_met = { λ a w hw h. (span-holds a w hw h, omega arith) };
+    ghost facts_met = { told-met };
 
-    ghost absorb_holds = { λ a f w hw h m.
-        onward-holds Within (λ r. Ranges.common r (Ranges.reach f.bits)) w (Ranges.common a f.range) (common_keeps a f.range w h m.1)
-        (λ r hr. common_keeps r (Ranges.reach f.bits) w hr (reach-holds f.bits w hw m.0)) };
+    ghost absorb_holds = { absorbed-holds };
 
-    ghost absorb_within = { λ a f w _ h.
-        (common-within a f.range w
-        (onward-within Within (λ r. Ranges.common r (Ranges.reach f.bits)) w (Ranges.common a f.range) h (λ r hr. (common-within r (Ranges.reach f.bits) w hr).0))).0 };
+    ghost absorb_within = { absorbed-within };
 
     fn any() -> Range {
         Range {

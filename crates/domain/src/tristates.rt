@@ -3,15 +3,8 @@ ghost use Rattle.domain.specs.Answers.{bits_absorbed, bits_told};
 ghost use Rattle.tristate.specs.Answers.{Smallest, applied, narrowed};
 ghost use Rattle.tristate.specs.Tristates.{Holds, front, full, hull, member, only};
 ghost use Rattle.words.specs.Widths.{bits_of};
-ghost use Rattle.tristate.proofs.Laws.{full-holds, only-holds, front-holds, applied-holds, hull-left, hull-right, narrowed-holds, reading-holds, common_keeps, common-within};
-ghost use Rattle.domain.specs.TristateDomainLemmas.{bits_le};
-ghost use Rattle.std.proofs.lemmas.Bool.Decides.{Decides-eqb};
-ghost use Rattle.tristate.specs.Tristates;
-ghost use Rattle.words.specs.Ternary.{clear};
-ghost use Rattle.std.proofs.Common.{⊎_elim};
-ghost use Rattle.range.proofs.Laws.{reach-holds, span-holds};
-ghost use Rattle.domain.specs.Onward.{onward-holds, onward-within};
-ghost use Rattle.range.specs.Ranges;
+ghost use Rattle.tristate.proofs.Laws.{applied-holds, narrowed-holds};
+ghost use Rattle.domain.specs.TristateLaws.{absorbed-holds, absorbed-within, front-holds, full-holds, hull-holds, member-decides, only-holds, told-met};
 
 use super::domain::Domain;
 use super::facts::Facts;
@@ -57,29 +50,25 @@ impl Domain for Tristate {
 
     ghost absorbed = { bits_absorbed };
 
-    ghost any_holds = { λ w _. full-holds w };
+    ghost any_holds = { full-holds };
 
-    ghost only_holds = { λ w _. only-holds w };
+    ghost only_holds = { only-holds };
 
-    ghost low_holds = { λ k w h. front-holds (bits_of k) w (bits_le k) h };
+    ghost low_holds = { front-holds };
 
-    ghost has_decides = { λ a w _. Decides-eqb (clear w (Tristates.unknown a)) (Tristates.known a) };
+    ghost has_decides = { member-decides };
 
     ghost of_holds = { applied-holds };
 
-    ghost join_holds = { λ a b w _ h. ⊎_elim (hull-left a b w) (hull-right a b w) h };
+    ghost join_holds = { hull-holds };
 
     ghost narrow_holds = { narrowed-holds };
 
-    ghost facts_met = { λ a w hw h. (reading-holds a w h, reach-holds a w hw h) };
+    ghost facts_met = { told-met };
 
-    ghost absorb_holds = { λ a f w hw h m.
-        onward-holds Holds (λ t. Tristates.common t (Ranges.span f.range)) w (Tristates.common a f.bits) (common_keeps a f.bits w h m.0)
-        (λ t ht. common_keeps t (Ranges.span f.range) w ht (span-holds f.range w hw m.1)) };
+    ghost absorb_holds = { absorbed-holds };
 
-    ghost absorb_within = { λ a f w _ h.
-        (common-within a f.bits w
-        (onward-within Holds (λ t. Tristates.common t (Ranges.span f.range)) w (Tristates.common a f.bits) h (λ t ht. (common-within t (Ranges.span f.range) w ht).0))).0 };
+    ghost absorb_within = { absorbed-within };
 
     fn any() -> Tristate {
         Tristate {

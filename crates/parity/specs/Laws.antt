@@ -1,19 +1,24 @@
--- What the answers are for: each holds what it has to hold.
+-- The laws of parities: each answer holds what it has to hold.
 use Rattle.std.specs.Prelude.{◌≡◌, ℕ, ◌+◌, ◌%◌, min, Bool, true, false, cond, ◌==◌, ◌≢◌, bit_and, bit_xor, refl}
-use Rattle.std.proofs.Common.{arith, eqb-true}
+use Rattle.std.proofs.Common.{arith, rules, eqb-true, ◌^◌, ◌<◌, ◌⊎◌, Decides}
 use Rattle.std.proofs.lemmas.Nat.{and_mask}
 use Rattle.std.specs.Int.Bits.{and_step, xor_add_and}
 use Rattle.std.proofs.lemmas.Bool.{eqb-false}
+use Rattle.domain.specs.declared.facts.Facts.{Facts}
+use Rattle.domain.specs.Facts.{Meets}
 use Rattle.parity.specs.declared.Parity.{Parity}
 use Rattle.parity.specs.declared.Parity.TheVariants.{Even, Odd, Either}
-use Rattle.parity.specs.Parities.{Stands, applied, common, conjunction, lowest, lowest_bit, parity_of, sum}
+use Rattle.parity.specs.Parities.{Stands, absorbed, applied, common, conjunction, joined, lowest, lowest_bit, member, narrowed, parity_of, sum, told}
 use Rattle.tristate.specs.declared.Tristate.{Tristate}
 use Rattle.tristate.specs.Tristates as bits
 use Rattle.tristate.proofs.Laws.{full-holds}
 use Rattle.words.specs.declared.operation.Operation.{Operation}
 use Rattle.words.specs.declared.operation.Operation.TheVariants.{Add, Sub, Mul, Div, And, Or, Xor, Shl, Shr}
+use Rattle.words.specs.declared.relation.Relation.{Relation}
+use Rattle.words.specs.declared.width.Width.{Width}
 use Rattle.words.specs.Sets.{HoldsIn}
-use Rattle.words.specs.Words.{Word, Sticks, result_of}
+use Rattle.words.specs.Widths.{bits_of}
+use Rattle.words.specs.Words.{Word, Related, Sticks, result_of}
 use Rattle.words.proofs.Bit.{bit-first}
 use Rattle.words.proofs.Held.{bit-clear, bit-held}
 
@@ -93,3 +98,33 @@ common_stands Odd Even w ha hb = omega arith
 common_stands Odd Odd w ha hb = ha
 common_stands Odd Either w ha hb = ha
 common_stands Either b w ha hb = hb
+
+-- ---- the other laws
+
+pub every_stands : (w : ℕ) → Word w → Stands Either w
+every_stands w hw = tt
+
+pub parity_of_stands : (w : ℕ) → Word w → Stands (parity_of w) w
+parity_of_stands w hw = parity_stands w w refl
+
+pub either_stands : (k : Width) (w : ℕ) → w < 2 ^ bits_of k → Stands Either w
+either_stands k w h = tt
+
+pub member-decides : (a : Parity) (w : ℕ) → Word w → Decides (member a w) (Stands a w)
+member-decides a w hw = search rules
+
+pub joined_stands : (a b : Parity) (w : ℕ) → Word w → Stands a w ⊎ Stands b w → Stands (joined a b) w
+joined_stands a b w hw h = search rules
+
+pub narrowed_stands : (rel : Relation) (a b : Parity) (x y : ℕ) → Word x → Word y → Stands a x → Stands b y → Related rel x y
+    → HoldsIn Stands (narrowed rel a b) x
+narrowed_stands rel a b x y hx hy ha hb r = search rules
+
+pub told-met : (a : Parity) (w : ℕ) → Word w → Stands a w → Meets (told a) w
+told-met a w hw h = (lowest-bit a w h, omega arith)
+
+pub absorbed_stands : (a : Parity) (f : Facts) (w : ℕ) → Word w → Stands a w → Meets f w → HoldsIn Stands (absorbed a f) w
+absorbed_stands a f w hw h m = common_stands a (lowest f.bits) w h (lowest_stands f.bits w m.0)
+
+pub absorbed-within : (a : Parity) (f : Facts) (w : ℕ) → Word w → HoldsIn Stands (absorbed a f) w → Stands a w
+absorbed-within a f w hw h = search rules

@@ -1,10 +1,11 @@
 //! Parities as a domain: one that is made of neither known bits nor ranges.
 
+#![tactic(auto)]
+
 ghost use Rattle.std.specs.Prelude.{◌≡◌};
 ghost use Rattle.parity.specs.Parities.{Stands, absorbed, applied, common, conjunction, joined, lowest, member, narrowed, parity_of, sum, told};
 ghost use Rattle.parity.specs.declared.Parity.TheVariants.{Either};
-ghost use Rattle.parity.specs.Laws.{applied_stands, lowest-bit, common_stands, lowest_stands};
-ghost use Rattle.std.proofs.Common.{arith, rules};
+ghost use Rattle.parity.specs.Laws.{absorbed_stands, absorbed-within, applied_stands, either_stands, every_stands, joined_stands, member-decides, narrowed_stands, parity_of_stands, told-met};
 
 use domain::{Domain, Facts};
 use range::Range;
@@ -100,25 +101,25 @@ impl Domain for Parity {
 
     ghost absorbed = { absorbed };
 
-    ghost any_holds = { Prim.search rules };
+    ghost any_holds = { every_stands };
 
-    ghost only_holds = { Prim.search rules };
+    ghost only_holds = { parity_of_stands };
 
-    ghost low_holds = { Prim.search rules };
+    ghost low_holds = { either_stands };
 
-    ghost has_decides = { Prim.search rules };
+    ghost has_decides = { member-decides };
 
     ghost of_holds = { applied_stands };
 
-    ghost join_holds = { Prim.search rules };
+    ghost join_holds = { joined_stands };
 
-    ghost narrow_holds = { Prim.search rules };
+    ghost narrow_holds = { narrowed_stands };
 
-    ghost facts_met = { λ a w hw h. (lowest-bit a w h, omega arith) };
+    ghost facts_met = { told-met };
 
-    ghost absorb_holds = { λ a f w hw h m. common_stands a (lowest f.bits) w h (lowest_stands f.bits w m.0) };
+    ghost absorb_holds = { absorbed_stands };
 
-    ghost absorb_within = { Prim.search rules };
+    ghost absorb_within = { absorbed-within };
 
     fn any() -> Parity {
         Parity::Even.join(Parity::Odd)

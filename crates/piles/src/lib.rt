@@ -1,6 +1,8 @@
 //! Any domain serves: a computation written once over the interface, and a pile of products that a
 //! domain from outside is part of.
 
+#![tactic(auto)]
+
 ghost use Rattle.std.specs.Prelude.{◌≡◌};
 ghost use Rattle.piles.specs.Piles.{HoldsMaskedSums, even_below64, masked_sum};
 

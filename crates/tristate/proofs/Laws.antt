@@ -142,7 +142,7 @@ smallest Shl a b am =
 smallest Shr a b am =
     on-amount Shr a b (moved (right (known b)) a) am (best-moved Shr right (λ x y. refl) right-moves right_lt a b am)
 
--- ---- each result_of is held
+-- ---- each result is held
 
 pub applied-holds : (op : Operation) (a b : Tristate) (x y : ℕ) → Word x → Word y → Holds a x → Holds b y → (Sticks op y → ⊥)
     → Holds (applied op a b) (result_of op x y)

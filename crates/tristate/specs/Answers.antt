@@ -28,7 +28,7 @@ narrowed LessOrEqual a b = Some (reading a)
 narrowed Greater a b = Some (reading a)
 narrowed GreaterOrEqual a b = Some (reading a)
 
--- `r` holds each result_of: what the machine makes of a word of `a` and a word of `b`
+-- `r` holds each result: what the machine makes of a word of `a` and a word of `b`
 abbrev pub HoldsResults : Operation → Tristate → Tristate → Tristate → Type 0
 HoldsResults op a b r = (x y : ℕ) → Word x → Word y → Holds a x → Holds b y → Holds r (result_of op x y)
 
@@ -48,7 +48,7 @@ Sharp Xor b = Unit {0}
 Sharp Shl b = Amount b
 Sharp Shr b = Amount b
 
--- there `r` holds each result_of, and every other tristate number that does holds each word that `r` holds
+-- there `r` holds each result, and every other tristate number that does holds each word that `r` holds
 pub record Best (op : Operation) (a b r : Tristate) : Type 0 where
   pub holds : HoldsResults op a b r
   pub smallest : (t : Tristate) → HoldsResults op a b t → (w : ℕ) → Word w → Holds r w → Holds t w

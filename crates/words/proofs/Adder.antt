@@ -46,7 +46,7 @@ module _ (op : ℕ → ℕ → ℕ) (g : Adds op) (a m b n mask : ℕ) (e : Extr
   w_lt : w < 2 ^ 64
   w_lt = clear_lt b n
 
-  -- at a known bit of the mask each result_of has the bit that the least has
+  -- at a known bit of the mask each result has the bit that the least has
   agrees : (x y : ℕ) → y < 2 ^ 64 → Held a m x → Held b n y → (i : ℕ) → i < 64 → bit i mask ≡ 0 → bit i (op x y) ≡ bit i (op v e.lo)
   agrees x y hy ex ey i l known =
       let low : carry i v (g.k e.lo) g.t ≤ carry i x (g.k y) g.t =

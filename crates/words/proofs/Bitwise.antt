@@ -12,7 +12,7 @@ module _ (a m b n : ℕ) (hm : m < 2 ^ 64) (hn : n < 2 ^ 64) where
   abbrev w : ℕ
   w = clear b n
 
-  -- what another number holds that holds every result_of
+  -- what another number holds that holds every result
   module _ (op : ℕ → ℕ → ℕ) (d q : ℕ) (all : Sound op a m b n d q) where
     at_least : Held d q (op v w)
     at_least = all v w (clear_lt a m) (clear_lt b n) (held-least a m hm) (held-least b n hn)

@@ -1,4 +1,4 @@
--- A result_of is a word.
+-- A result is a word.
 use Rattle.std.proofs.Common.{ℕ, div-le_self, arith}
 use lib.Bits.{and_lt, or_lt, xor_lt}
 use lib.Pow.{shr_le}

@@ -1,4 +1,4 @@
--- Words, and what the machine makes of two of them: the result_of of each operation, where it has none, and the comparisons.
+-- Words, and what the machine makes of two of them: the result of each operation, where it has none, and the comparisons.
 use Rattle.std.specs.Prelude.{◌≡◌, ℕ, zero, suc, ◌+◌, ◌-◌, ◌*◌, ◌/◌, ◌%◌, ◌^◌, ◌<◌, ◌≤◌, bit_and, bit_or, bit_xor}
 use Rattle.words.specs.declared.operation.Operation.{Operation}
 use Rattle.words.specs.declared.operation.Operation.TheVariants.{Add, Sub, Mul, Div, And, Or, Xor, Shl, Shr}
@@ -37,7 +37,7 @@ result_of Xor a b = bit_xor a b
 result_of Shl a b = left b a
 result_of Shr a b = right b a
 
--- the second operands at which the operation has no result_of: a divisor of 0, and a shift by more than 63
+-- the second operands at which the operation has no result: a divisor of 0, and a shift by more than 63
 abbrev pub Sticks : Operation → ℕ → Type 0
 Sticks Add b = ⊥
 Sticks Sub b = ⊥

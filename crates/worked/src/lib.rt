@@ -1,5 +1,7 @@
 //! Eight examples worked by hand, which the domains answer.
 
+#![tactic(auto)]
+
 ghost use Rattle.std.specs.Prelude.{◌≡◌};
 ghost use Rattle.worked.specs.Table.{table};
 

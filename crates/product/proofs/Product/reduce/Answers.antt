@@ -3,7 +3,7 @@ use Rattle.std.proofs.Common.{Option, sym, subst}
 use Rattle.domain.specs.Lawful.{Lawful}
 use Rattle.product.specs.declared.Product.{Product}
 use Rattle.product.specs.Products.{Exactly}
-use Rattle.product.proofs.Laws.{exactly}
+use Rattle.product.specs.Laws.{exactly}
 use Rattle.product.proofs.Product.reduce.Given as given
 use Rattle.product.proofs.Product.reduce.Goals as goal
 

@@ -1,20 +1,23 @@
 -- The laws of a product, from those of its parts.
-use Rattle.std.proofs.Common.{ℕ, ◌⊎◌, Some, None, Decides, Option, unwrap_or, inl, inr}
+use Rattle.std.proofs.Common.{ℕ, ◌^◌, ◌<◌, ◌⊎◌, Some, None, Decides, Option, unwrap_or, inl, inr}
 use Rattle.std.proofs.lemmas.Bool.Decides.{Decides-and}
 use Rattle.domain.specs.declared.domain.Domain.{Ghosts}
 use Rattle.domain.specs.declared.facts.Facts.{Facts}
 use Rattle.domain.specs.Facts.{Meets, combined}
 use Rattle.domain.specs.Lawful.{Lawful}
 use Rattle.product.specs.declared.Product.{Product}
-use Rattle.product.specs.Products.{Both, Exactly, absorbed, applied, joined, kept, member, met, narrowed, pair, paired, reduced, reduced_in, told}
+use Rattle.product.specs.Products.{Both, Exactly, absorbed, applied, every, joined, kept, member, met, narrowed, pair, paired, reduced, reduced_in, single, told, under}
 use Rattle.range.specs.Ranges as ranges
 use Rattle.range.proofs.Laws as range-laws
 use Rattle.tristate.specs.Tristates as bits
 use Rattle.tristate.proofs.Laws as bits-laws
 use Rattle.words.specs.declared.operation.Operation.{Operation}
 use Rattle.words.specs.declared.relation.Relation.{Relation}
+use Rattle.words.specs.declared.width.Width.{Width}
 use Rattle.words.specs.Sets.{HoldsIn}
+use Rattle.words.specs.Widths.{bits_of}
 use Rattle.words.specs.Words.{Word, Related, Sticks, result_of}
+use Rattle.words.proofs.Results.{result_word}
 
 -- ---- facts: a word that meets both meets the common parts
 
@@ -84,14 +87,23 @@ module _ {A B : Type 0} (a : Ghosts A) (b : Ghosts B) (la : Lawful a) (lb : Lawf
 
   -- ---- the laws
 
+  pub any_holds : (w : ℕ) → Word w → Both a b (every a b) w
+  any_holds w hw = (la.any_holds w hw, lb.any_holds w hw)
+
+  pub only_holds : (w : ℕ) → Word w → Both a b (single a b w) w
+  only_holds w hw = (la.only-holds w hw, lb.only-holds w hw)
+
+  pub low_holds : (k : Width) (w : ℕ) → w < 2 ^ bits_of k → Both a b (under a b k) w
+  low_holds k w h = (la.low-holds k w h, lb.low-holds k w h)
+
   pub has_decides : (p : Product A B) (w : ℕ) → Word w → Decides (member a b p w) (Both a b p w)
   has_decides p w hw =
       Decides-and (a.member p.first w) (b.member p.second w) (la.has_decides p.first w hw) (lb.has_decides p.second w hw)
 
   pub of_holds : (op : Operation) (p q : Product A B) (x y : ℕ) → Word x → Word y → Both a b p x → Both a b q y → (Sticks op y → ⊥)
-      → Word (result_of op x y) → Both a b (applied a b op p q) (result_of op x y)
-  of_holds op p q x y hx hy hp hq ok hr =
-      kept-holds (pair (a.applied op p.first q.first) (b.applied op p.second q.second)) (result_of op x y) hr
+      → Both a b (applied a b op p q) (result_of op x y)
+  of_holds op p q x y hx hy hp hq ok =
+      kept-holds (pair (a.applied op p.first q.first) (b.applied op p.second q.second)) (result_of op x y) (result_word op x y hx hy)
       (la.of_holds op p.first q.first x y hx hy hp.0 hq.0 ok, lb.of_holds op p.second q.second x y hx hy hp.1 hq.1 ok)
 
   pub join_holds : (p q : Product A B) (w : ℕ) → Word w → Both a b p w ⊎ Both a b q w → Both a b (joined a b p q) w

@@ -1,0 +1,41 @@
+-- The laws of ranges.
+use Rattle.std.proofs.Common.{ℕ, ◌^◌, ◌<◌, ◌⊎◌, Decides, arith, rules}
+use Rattle.domain.specs.declared.facts.Facts.{Facts}
+use Rattle.domain.specs.Answers.{range_absorbed, range_told}
+use Rattle.domain.specs.Facts.{Meets}
+use Rattle.domain.specs.Onward.{onward-holds, onward-within}
+use Rattle.range.specs.declared.Range.{Range}
+use Rattle.range.specs.Ranges.{Within, common, front, full, hull, member, only, reach}
+use Rattle.range.proofs.Laws.{common_keeps, common-within, reach-holds, span-holds}
+use Rattle.words.specs.declared.width.Width.{Width}
+use Rattle.words.specs.Sets.{HoldsIn}
+use Rattle.words.specs.Widths.{bits_of}
+use Rattle.words.specs.Words.{Word}
+
+pub full-holds : (w : ℕ) → Word w → Within full w
+full-holds w h = search rules
+
+pub only-holds : (w : ℕ) → Word w → Within (only w) w
+only-holds w h = search rules
+
+pub front-holds : (k : Width) (w : ℕ) → w < 2 ^ bits_of k → Within (front (bits_of k)) w
+front-holds k w h = search rules
+
+pub member-decides : (a : Range) (w : ℕ) → Word w → Decides (member a w) (Within a w)
+member-decides a w h = search rules
+
+pub hull-holds : (a b : Range) (w : ℕ) → Word w → Within a w ⊎ Within b w → Within (hull a b) w
+hull-holds a b w hw h = search rules
+
+pub told-met : (a : Range) (w : ℕ) → Word w → Within a w → Meets (range_told a) w
+told-met a w hw h = (span-holds a w hw h, omega arith)
+
+pub absorbed-holds : (a : Range) (f : Facts) (w : ℕ) → Word w → Within a w → Meets f w → HoldsIn Within (range_absorbed a f) w
+absorbed-holds a f w hw h m =
+    onward-holds Within (λ r. common r (reach f.bits)) w (common a f.range) (common_keeps a f.range w h m.1)
+    (λ r hr. common_keeps r (reach f.bits) w hr (reach-holds f.bits w hw m.0))
+
+pub absorbed-within : (a : Range) (f : Facts) (w : ℕ) → Word w → HoldsIn Within (range_absorbed a f) w → Within a w
+absorbed-within a f w _ h =
+    (common-within a f.range w
+    (onward-within Within (λ r. common r (reach f.bits)) w (common a f.range) h (λ r hr. (common-within r (reach f.bits) w hr).0))).0
