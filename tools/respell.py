@@ -33,7 +33,8 @@ GOAL = re.compile(r":\s*(?:goal|given)\.")
 
 
 def files(ending):
-    return sorted(glob.glob(f"crates/**/*.{ending}", recursive=True))
+    paths = glob.glob(f"crates/**/*.{ending}", recursive=True)
+    return sorted(path for path in paths if "/out/" not in path)
 
 
 def snake(name):
@@ -99,16 +100,21 @@ def turn():
             sys.exit(f"{name} and {new} fall together in {sorted(both)} {twins}")
     token = re.compile(rf"(?<![{WORD}])[{WORD}]+(?![{WORD}])")
     for path in files("antt") + files("rt"):
+        comment = re.compile(r"\s*--" if path.endswith(".antt") else r"\s*//")
         with open(path, encoding="utf-8") as file:
-            text = file.read()
-        new = token.sub(lambda m: turned.get(m.group(0), m.group(0)), text)
-        if path.endswith(".antt"):
-            new = re.sub(rf"(?<![.{WORD}])result(?![{WORD}]|\s*=)", "result_of", new)
-        else:
-            new = new.replace("Word, result}", "Word, result_of}").replace("(result op", "(result_of op")
-        if new != text:
+            lines = file.read().split("\n")
+        turned_lines = []
+        for line in lines:
+            if not comment.match(line):
+                line = token.sub(lambda m: turned.get(m.group(0), m.group(0)), line)
+                if path.endswith(".antt"):
+                    line = re.sub(rf"(?<![.{WORD}])result(?![{WORD}]|\s*=)", "result_of", line)
+                else:
+                    line = line.replace("Word, result}", "Word, result_of}").replace("(result op", "(result_of op")
+            turned_lines.append(line)
+        if turned_lines != lines:
             with open(path, "w", encoding="utf-8") as file:
-                file.write(new)
+                file.write("\n".join(turned_lines))
     return turned
 
 

@@ -1,4 +1,4 @@
--- After any list of fills and runs each byte of a read_only buffer is the book's.
+-- After any list of fills and runs each byte of a read-only buffer is the book's.
 use Rattle.std.proofs.Common.{◌≡◌, ℕ, ◌+◌, ◌<◌, ◌≤◌, Bool, true, false, cond, ◌&&◌, eqb, List, [], ◌∷◌, length, get_or, drop, sym, refl, ap, ◌∙◌, subst, ⊎_elim, arith}
 use Rattle.std.proofs.lemmas.List.{at_drop_more}
 use Rattle.std.proofs.lemmas.Bool.{cases_Bool, cases_lt, cond-true, cond-false, eqb-true}
@@ -40,7 +40,7 @@ called p cs i c m o n h left refused =
 
 -- ── the memory and the book ──
 
--- as long as each other, and the same at every place of a read_only buffer
+-- as long as each other, and the same at every place of a read-only buffer
 record Agree (p : List Record) (m k : List ℕ) : Type 0 where
   long : length m ≡ length k
   same : (i : ℕ) → ReadOnlyAt p i → get_or m i 0 ≡ get_or k i 0

@@ -15,14 +15,14 @@ use Rattle.words.specs.Words.{Word}
 pub full-holds : (w : ℕ) → Word w → Within full w
 full-holds w h = search rules
 
-pub only-holds : (w : ℕ) → Word w → Within (only w) w
-only-holds w h = search rules
+pub exact-holds : (w : ℕ) → Word w → Within (only w) w
+exact-holds w h = search rules
 
 pub front-holds : (k : Width) (w : ℕ) → w < 2 ^ bits_of k → Within (front (bits_of k)) w
 front-holds k w h = search rules
 
-pub member-decides : (a : Range) (w : ℕ) → Word w → Decides (member a w) (Within a w)
-member-decides a w h = search rules
+pub member_decides : (a : Range) (w : ℕ) → Word w → Decides (member a w) (Within a w)
+member_decides a w h = search rules
 
 pub hull-holds : (a b : Range) (w : ℕ) → Word w → Within a w ⊎ Within b w → Within (hull a b) w
 hull-holds a b w hw h = search rules

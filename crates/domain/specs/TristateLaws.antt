@@ -26,14 +26,14 @@ bits_le W64 = omega arith
 pub full-holds : (w : ℕ) → Word w → Holds full w
 full-holds w _ = bits.full-holds w
 
-pub only-holds : (w : ℕ) → Word w → Holds (only w) w
-only-holds w _ = bits.only-holds w
+pub exact-holds : (w : ℕ) → Word w → Holds (only w) w
+exact-holds w _ = bits.only_holds w
 
 pub front-holds : (k : Width) (w : ℕ) → w < 2 ^ bits_of k → Holds (front (bits_of k)) w
 front-holds k w h = bits.front-holds (bits_of k) w (bits_le k) h
 
-pub member-decides : (a : Tristate) (w : ℕ) → Word w → Decides (member a w) (Holds a w)
-member-decides a w _ = Decides-eqb (clear w (unknown a)) (known a)
+pub member_decides : (a : Tristate) (w : ℕ) → Word w → Decides (member a w) (Holds a w)
+member_decides a w _ = Decides-eqb (clear w (unknown a)) (known a)
 
 pub hull-holds : (a b : Tristate) (w : ℕ) → Word w → Holds a w ⊎ Holds b w → Holds (hull a b) w
 hull-holds a b w _ h = ⊎_elim (bits.hull-left a b w) (bits.hull-right a b w) h

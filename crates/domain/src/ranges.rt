@@ -3,7 +3,7 @@ ghost use Rattle.range.specs.Answers.{applied, narrowed};
 ghost use Rattle.range.specs.Ranges.{Within, front, full, hull, member, only};
 ghost use Rattle.words.specs.Widths.{bits_of};
 ghost use Rattle.range.proofs.Laws.{applied-holds, narrowed-holds};
-ghost use Rattle.domain.specs.RangeLaws.{absorbed-holds, absorbed-within, front-holds, full-holds, hull-holds, member-decides, only-holds, told-met};
+ghost use Rattle.domain.specs.RangeLaws.{absorbed-holds, absorbed-within, front-holds, full-holds, hull-holds, member_decides, exact-holds, told-met};
 
 use super::domain::Domain;
 use super::facts::Facts;
@@ -33,11 +33,11 @@ impl Domain for Range {
 
     ghost any_holds = { full-holds };
 
-    ghost only_holds = { only-holds };
+    ghost only_holds = { exact-holds };
 
     ghost low_holds = { front-holds };
 
-    ghost has_decides = { member-decides };
+    ghost has_decides = { member_decides };
 
     ghost of_holds = { applied-holds };
 

@@ -4,7 +4,7 @@ ghost use Rattle.tristate.specs.Answers.{Smallest, applied, narrowed};
 ghost use Rattle.tristate.specs.Tristates.{Holds, front, full, hull, member, only};
 ghost use Rattle.words.specs.Widths.{bits_of};
 ghost use Rattle.tristate.proofs.Laws.{applied-holds, narrowed-holds};
-ghost use Rattle.domain.specs.TristateLaws.{absorbed-holds, absorbed-within, front-holds, full-holds, hull-holds, member-decides, only-holds, told-met};
+ghost use Rattle.domain.specs.TristateLaws.{absorbed-holds, absorbed-within, front-holds, full-holds, hull-holds, member_decides, exact-holds, told-met};
 
 use super::domain::Domain;
 use super::facts::Facts;
@@ -52,11 +52,11 @@ impl Domain for Tristate {
 
     ghost any_holds = { full-holds };
 
-    ghost only_holds = { only-holds };
+    ghost only_holds = { exact-holds };
 
     ghost low_holds = { front-holds };
 
-    ghost has_decides = { member-decides };
+    ghost has_decides = { member_decides };
 
     ghost of_holds = { applied-holds };
 

@@ -34,7 +34,7 @@ abbrev pub fetched : Registers → Operand → Option ℕ
 fetched r (Register k) = register_of r k
 fetched r (Constant c) = Some c
 
--- has the operation no result_of at this second operand?
+-- has the operation no result at this second operand?
 abbrev pub sticks : Operation → ℕ → Bool
 sticks Div y = y == 0
 sticks Shl y = nat_lt 63 y

@@ -11,7 +11,7 @@ use Rattle.syntax.specs.Statements.{is_code, is_heading}
 use Rattle.grammar.specs.declared.fault.ProgramFault.{ProgramFault}
 use Rattle.grammar.specs.declared.fault.ProgramFault.TheVariants.{Line, TooLong, Repeated, Full, Unknown, Backward, ReadOnly, Unclosed}
 use Rattle.grammar.specs.declared.shape.Shape.{Shape}
-use Rattle.grammar.specs.Causes.{Long, NoneForeign, IsHeading, heading_place, line_at, after, has_code, is_label, instructions, number_at, FineNames, last_line, Open, no_code, no_instruction, no_ret, label-last, body, buffer_lines, code_lines, buffer_room, code_room, Headed, Named, Unblamed, AtBuffer, AtCode, AtNames, Refused, Judged}
+use Rattle.grammar.specs.Causes.{Long, NoneForeign, IsHeading, heading_place, line_at, after, has_code, is_label, instructions, number_at, FineNames, last_line, Open, no_code, no_instruction, no_ret, label_last, body, buffer_lines, code_lines, buffer_room, code_room, Headed, Named, Unblamed, AtBuffer, AtCode, AtNames, Refused, Judged}
 use Rattle.grammar.specs.Reading.{Fields, Heads, Survey, Program, and_then, link_from, scope_of, closing, code_of, coded, body_of, program_of, clean, reading, shape_of}
 use Rattle.grammar.proofs.Blames.{buffer-blamed, code-blamed, names-blamed}
 use Rattle.grammar.proofs.Buffers as buffers
@@ -77,14 +77,14 @@ closed-end ls has ends (no_instruction e) =
     let count : instructions cs ≡ number_at cs k + 1 = sym (number-all cs (k + 1) (omega (arith, ends.0))) ∙ number-instruction cs k (omega (arith, ends.0)) ends.1 in
     omega arith
 closed-end ls has ends (no_ret l r) = r ends.2
-closed-end ls has ends (label-last l) = both_ways _ ends.1 l
+closed-end ls has ends (label_last l) = both_ways _ ends.1 l
 
 open_end : (ls : List Fields) → (EndsAt (after ls) (length (after ls)) → ⊥) → Open ls
 open_end ls never =
     let cs = after ls in
     ⊎_elim
     (λ some. ⊎_elim
-    (λ l. label-last l)
+    (λ l. label_last l)
     (λ l. no_ret l (λ r. never (some, l, r)))
     (cases_Bool (is_label (last_line cs))))
     (λ empty. no_instruction (sym (number-all cs 0 empty)))

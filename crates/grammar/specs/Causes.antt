@@ -268,7 +268,7 @@ pub data Open (ls : List Fields) : Type 0 where
   no_code : has_code ls ≡ false → Open ls
   no_instruction : instructions (after ls) ≡ 0 → Open ls
   no_ret : is_label (last_line (after ls)) ≡ false → ((field_at (last_line (after ls)) 0).bytes ≢ codes "ret") → Open ls
-  label-last : is_label (last_line (after ls)) ≡ true → Open ls
+  label_last : is_label (last_line (after ls)) ≡ true → Open ls
 
 -- ── the whole text ──
 

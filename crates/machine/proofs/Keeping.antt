@@ -1,4 +1,4 @@
--- What a write into the memory leaves, and that no step touches a read_only buffer.
+-- What a write into the memory leaves, and that no step touches a read-only buffer.
 use Rattle.std.proofs.Common.{◌≡◌, ℕ, ◌+◌, ◌-◌, ◌<◌, ◌≤◌, true, List, ◌++◌, length, get_or, take, drop, sym, refl, ap, ◌∙◌, subst, ⊎_elim, arith}
 use Rattle.std.proofs.lemmas.List.{get_or_append_left, get_or-append_right, get_or-take, get_or-drop, length-append, length-take-le, length-drop}
 use Rattle.std.proofs.lemmas.Bool.{cases_lt, cases_eq, both_ways}
@@ -43,7 +43,7 @@ module _ (m : List ℕ) (a : ℕ) (bs : List ℕ) (fits : a + length bs ≤ leng
 
 -- ── a step ──
 
--- the memory keeps its length and each byte of a read_only buffer
+-- the memory keeps its length and each byte of a read-only buffer
 pub record Keeps (p : List Record) (m o : List ℕ) : Type 0 where
   pub long : length o ≡ length m
   pub read_only : (i : ℕ) → ReadOnlyAt p i → get_or o i 0 ≡ get_or m i 0

@@ -80,7 +80,7 @@ abbrev pub In : ℕ → List ℕ → Type 0
 In k [] = ⊥
 In k (x ∷ xs) = (k ≡ x) ⊎ In k xs
 
--- an unset register is read, the operation has no result_of, or the access leaves its buffer or is askew
+-- an unset register is read, the operation has no result, or the access leaves its buffer or is askew
 pub data Stuck (p : List Record) (r : Regs) : Item → Type 0 where
   unset : {i : Item} (k : ℕ) → In k (reads i) → r k ≡ None → Stuck p r i
   no_result : {op : Operation} {t : ℕ} {s : Operand} (y : ℕ) → value r s ≡ Some y → Sticks op y → Stuck p r (Alu op t s)

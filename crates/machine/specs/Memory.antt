@@ -74,7 +74,7 @@ pub record Free (p : List Record) (words : List ℕ) (w steps : ℕ) : Type 0 wh
   pub gives : Gives state.regs w (item_at p state.at)
   pub steps_are : steps ≡ state.steps + 1
 
--- place i of the memory lies in a read_only buffer
+-- place i of the memory lies in a read-only buffer
 pub record ReadOnlyAt (p : List Record) (i : ℕ) : Type 0 where
   pub buffer : ℕ
   pub there : buffer < buffer_count p

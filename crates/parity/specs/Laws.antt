@@ -110,8 +110,8 @@ parity_of_stands w hw = parity_stands w w refl
 pub either_stands : (k : Width) (w : ℕ) → w < 2 ^ bits_of k → Stands Either w
 either_stands k w h = tt
 
-pub member-decides : (a : Parity) (w : ℕ) → Word w → Decides (member a w) (Stands a w)
-member-decides a w hw = search rules
+pub member_decides : (a : Parity) (w : ℕ) → Word w → Decides (member a w) (Stands a w)
+member_decides a w hw = search rules
 
 pub joined_stands : (a b : Parity) (w : ℕ) → Word w → Stands a w ⊎ Stands b w → Stands (joined a b) w
 joined_stands a b w hw h = search rules

@@ -5,7 +5,7 @@
 ghost use Rattle.std.specs.Prelude.{◌≡◌};
 ghost use Rattle.parity.specs.Parities.{Stands, absorbed, applied, common, conjunction, joined, lowest, member, narrowed, parity_of, sum, told};
 ghost use Rattle.parity.specs.declared.Parity.TheVariants.{Either};
-ghost use Rattle.parity.specs.Laws.{absorbed_stands, absorbed-within, applied_stands, either_stands, every_stands, joined_stands, member-decides, narrowed_stands, parity_of_stands, told-met};
+ghost use Rattle.parity.specs.Laws.{absorbed_stands, absorbed-within, applied_stands, either_stands, every_stands, joined_stands, member_decides, narrowed_stands, parity_of_stands, told-met};
 
 use domain::{Domain, Facts};
 use range::Range;
@@ -107,7 +107,7 @@ impl Domain for Parity {
 
     ghost low_holds = { either_stands };
 
-    ghost has_decides = { member-decides };
+    ghost has_decides = { member_decides };
 
     ghost of_holds = { applied_stands };
 

@@ -50,7 +50,7 @@ module _ {A B : Type 0} (a : Ghosts A) (b : Ghosts B) (la : Lawful a) (lb : Lawf
   met_holds : (x : A) (y : Option B) (w : ℕ) → Word w → a.holds x w → HoldsIn b.holds y w → HoldsIn (Both a b) (met a b x y) w
   met_holds x None w hw h k = k
   met_holds x (Some y) w hw h k =
-      paired-holds (a.absorbed x (b.told y)) (Some y) w (la.absorb_holds x (b.told y) w hw h (lb.facts-met y w hw k)) k
+      paired-holds (a.absorbed x (b.told y)) (Some y) w (la.absorb_holds x (b.told y) w hw h (lb.facts_met y w hw k)) k
 
   met-within : (x : A) (y : Option B) (w : ℕ) → Word w → HoldsIn (Both a b) (met a b x y) w → a.holds x w × HoldsIn b.holds y w
   met-within x None w hw h = absurd h
@@ -60,7 +60,7 @@ module _ {A B : Type 0} (a : Ghosts A) (b : Ghosts B) (la : Lawful a) (lb : Lawf
   reduced-holds : (p : Product A B) (w : ℕ) → Word w → Both a b p w → HoldsIn (Both a b) (reduced a b p) w
   reduced-holds p w hw h =
       met_holds p.first (b.absorbed p.second (a.told p.first)) w hw h.0
-      (lb.absorb_holds p.second (a.told p.first) w hw h.1 (la.facts-met p.first w hw h.0))
+      (lb.absorb_holds p.second (a.told p.first) w hw h.1 (la.facts_met p.first w hw h.0))
 
   reduced-within : (p : Product A B) (w : ℕ) → Word w → HoldsIn (Both a b) (reduced a b p) w → Both a b p w
   reduced-within p w hw h =
@@ -91,10 +91,10 @@ module _ {A B : Type 0} (a : Ghosts A) (b : Ghosts B) (la : Lawful a) (lb : Lawf
   any_holds w hw = (la.any_holds w hw, lb.any_holds w hw)
 
   pub only_holds : (w : ℕ) → Word w → Both a b (single a b w) w
-  only_holds w hw = (la.only-holds w hw, lb.only-holds w hw)
+  only_holds w hw = (la.only_holds w hw, lb.only_holds w hw)
 
   pub low_holds : (k : Width) (w : ℕ) → w < 2 ^ bits_of k → Both a b (under a b k) w
-  low_holds k w h = (la.low-holds k w h, lb.low-holds k w h)
+  low_holds k w h = (la.low_holds k w h, lb.low_holds k w h)
 
   pub has_decides : (p : Product A B) (w : ℕ) → Word w → Decides (member a b p w) (Both a b p w)
   has_decides p w hw =
@@ -122,9 +122,9 @@ module _ {A B : Type 0} (a : Ghosts A) (b : Ghosts B) (la : Lawful a) (lb : Lawf
       (la.narrow_holds rel p.first q.first x y hx hy hp.0 hq.0 r)
       (lb.narrow_holds rel p.second q.second x y hx hy hp.1 hq.1 r))
 
-  pub facts-met : (p : Product A B) (w : ℕ) → Word w → Both a b p w → Meets (told a b p) w
-  facts-met p w hw h =
-      combined-met (a.told p.first) (b.told p.second) w (la.facts-met p.first w hw h.0) (lb.facts-met p.second w hw h.1)
+  pub facts_met : (p : Product A B) (w : ℕ) → Word w → Both a b p w → Meets (told a b p) w
+  facts_met p w hw h =
+      combined-met (a.told p.first) (b.told p.second) w (la.facts_met p.first w hw h.0) (lb.facts_met p.second w hw h.1)
 
   pub absorb_holds : (p : Product A B) (f : Facts) (w : ℕ) → Word w → Both a b p w → Meets f w → HoldsIn (Both a b) (absorbed a b p f) w
   absorb_holds p f w hw h m =

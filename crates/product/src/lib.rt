@@ -83,25 +83,65 @@ impl<A: Domain, B: Domain> Domain for Product<A, B> {
 
     ghost absorbed = { absorbed A.Domain B.Domain };
 
-    ghost any_holds = { ProductLaws.any_holds A.Domain.own B.Domain.own (lawful A.Domain.own A.any_holds A.only_holds A.low_holds A.has_decides A.of_holds A.join_holds A.narrow_holds A.facts_met A.absorb_holds A.absorb_within) (lawful B.Domain.own B.any_holds B.only_holds B.low_holds B.has_decides B.of_holds B.join_holds B.narrow_holds B.facts_met B.absorb_holds B.absorb_within) };
+    ghost any_holds = { ProductLaws.any_holds A.Domain.own B.Domain.own
+        (lawful A.Domain.own A.any_holds A.only_holds A.low_holds A.has_decides A.of_holds
+        A.join_holds A.narrow_holds A.facts_met A.absorb_holds A.absorb_within)
+        (lawful B.Domain.own B.any_holds B.only_holds B.low_holds B.has_decides B.of_holds
+        B.join_holds B.narrow_holds B.facts_met B.absorb_holds B.absorb_within) };
 
-    ghost only_holds = { ProductLaws.only_holds A.Domain.own B.Domain.own (lawful A.Domain.own A.any_holds A.only_holds A.low_holds A.has_decides A.of_holds A.join_holds A.narrow_holds A.facts_met A.absorb_holds A.absorb_within) (lawful B.Domain.own B.any_holds B.only_holds B.low_holds B.has_decides B.of_holds B.join_holds B.narrow_holds B.facts_met B.absorb_holds B.absorb_within) };
+    ghost only_holds = { ProductLaws.only_holds A.Domain.own B.Domain.own
+        (lawful A.Domain.own A.any_holds A.only_holds A.low_holds A.has_decides A.of_holds
+        A.join_holds A.narrow_holds A.facts_met A.absorb_holds A.absorb_within)
+        (lawful B.Domain.own B.any_holds B.only_holds B.low_holds B.has_decides B.of_holds
+        B.join_holds B.narrow_holds B.facts_met B.absorb_holds B.absorb_within) };
 
-    ghost low_holds = { ProductLaws.low_holds A.Domain.own B.Domain.own (lawful A.Domain.own A.any_holds A.only_holds A.low_holds A.has_decides A.of_holds A.join_holds A.narrow_holds A.facts_met A.absorb_holds A.absorb_within) (lawful B.Domain.own B.any_holds B.only_holds B.low_holds B.has_decides B.of_holds B.join_holds B.narrow_holds B.facts_met B.absorb_holds B.absorb_within) };
+    ghost low_holds = { ProductLaws.low_holds A.Domain.own B.Domain.own
+        (lawful A.Domain.own A.any_holds A.only_holds A.low_holds A.has_decides A.of_holds
+        A.join_holds A.narrow_holds A.facts_met A.absorb_holds A.absorb_within)
+        (lawful B.Domain.own B.any_holds B.only_holds B.low_holds B.has_decides B.of_holds
+        B.join_holds B.narrow_holds B.facts_met B.absorb_holds B.absorb_within) };
 
-    ghost has_decides = { ProductLaws.has_decides A.Domain.own B.Domain.own (lawful A.Domain.own A.any_holds A.only_holds A.low_holds A.has_decides A.of_holds A.join_holds A.narrow_holds A.facts_met A.absorb_holds A.absorb_within) (lawful B.Domain.own B.any_holds B.only_holds B.low_holds B.has_decides B.of_holds B.join_holds B.narrow_holds B.facts_met B.absorb_holds B.absorb_within) };
+    ghost has_decides = { ProductLaws.has_decides A.Domain.own B.Domain.own
+        (lawful A.Domain.own A.any_holds A.only_holds A.low_holds A.has_decides A.of_holds
+        A.join_holds A.narrow_holds A.facts_met A.absorb_holds A.absorb_within)
+        (lawful B.Domain.own B.any_holds B.only_holds B.low_holds B.has_decides B.of_holds
+        B.join_holds B.narrow_holds B.facts_met B.absorb_holds B.absorb_within) };
 
-    ghost of_holds = { ProductLaws.of_holds A.Domain.own B.Domain.own (lawful A.Domain.own A.any_holds A.only_holds A.low_holds A.has_decides A.of_holds A.join_holds A.narrow_holds A.facts_met A.absorb_holds A.absorb_within) (lawful B.Domain.own B.any_holds B.only_holds B.low_holds B.has_decides B.of_holds B.join_holds B.narrow_holds B.facts_met B.absorb_holds B.absorb_within) };
+    ghost of_holds = { ProductLaws.of_holds A.Domain.own B.Domain.own
+        (lawful A.Domain.own A.any_holds A.only_holds A.low_holds A.has_decides A.of_holds
+        A.join_holds A.narrow_holds A.facts_met A.absorb_holds A.absorb_within)
+        (lawful B.Domain.own B.any_holds B.only_holds B.low_holds B.has_decides B.of_holds
+        B.join_holds B.narrow_holds B.facts_met B.absorb_holds B.absorb_within) };
 
-    ghost join_holds = { ProductLaws.join_holds A.Domain.own B.Domain.own (lawful A.Domain.own A.any_holds A.only_holds A.low_holds A.has_decides A.of_holds A.join_holds A.narrow_holds A.facts_met A.absorb_holds A.absorb_within) (lawful B.Domain.own B.any_holds B.only_holds B.low_holds B.has_decides B.of_holds B.join_holds B.narrow_holds B.facts_met B.absorb_holds B.absorb_within) };
+    ghost join_holds = { ProductLaws.join_holds A.Domain.own B.Domain.own
+        (lawful A.Domain.own A.any_holds A.only_holds A.low_holds A.has_decides A.of_holds
+        A.join_holds A.narrow_holds A.facts_met A.absorb_holds A.absorb_within)
+        (lawful B.Domain.own B.any_holds B.only_holds B.low_holds B.has_decides B.of_holds
+        B.join_holds B.narrow_holds B.facts_met B.absorb_holds B.absorb_within) };
 
-    ghost narrow_holds = { ProductLaws.narrow_holds A.Domain.own B.Domain.own (lawful A.Domain.own A.any_holds A.only_holds A.low_holds A.has_decides A.of_holds A.join_holds A.narrow_holds A.facts_met A.absorb_holds A.absorb_within) (lawful B.Domain.own B.any_holds B.only_holds B.low_holds B.has_decides B.of_holds B.join_holds B.narrow_holds B.facts_met B.absorb_holds B.absorb_within) };
+    ghost narrow_holds = { ProductLaws.narrow_holds A.Domain.own B.Domain.own
+        (lawful A.Domain.own A.any_holds A.only_holds A.low_holds A.has_decides A.of_holds
+        A.join_holds A.narrow_holds A.facts_met A.absorb_holds A.absorb_within)
+        (lawful B.Domain.own B.any_holds B.only_holds B.low_holds B.has_decides B.of_holds
+        B.join_holds B.narrow_holds B.facts_met B.absorb_holds B.absorb_within) };
 
-    ghost facts_met = { ProductLaws.facts-met A.Domain.own B.Domain.own (lawful A.Domain.own A.any_holds A.only_holds A.low_holds A.has_decides A.of_holds A.join_holds A.narrow_holds A.facts_met A.absorb_holds A.absorb_within) (lawful B.Domain.own B.any_holds B.only_holds B.low_holds B.has_decides B.of_holds B.join_holds B.narrow_holds B.facts_met B.absorb_holds B.absorb_within) };
+    ghost facts_met = { ProductLaws.facts_met A.Domain.own B.Domain.own
+        (lawful A.Domain.own A.any_holds A.only_holds A.low_holds A.has_decides A.of_holds
+        A.join_holds A.narrow_holds A.facts_met A.absorb_holds A.absorb_within)
+        (lawful B.Domain.own B.any_holds B.only_holds B.low_holds B.has_decides B.of_holds
+        B.join_holds B.narrow_holds B.facts_met B.absorb_holds B.absorb_within) };
 
-    ghost absorb_holds = { ProductLaws.absorb_holds A.Domain.own B.Domain.own (lawful A.Domain.own A.any_holds A.only_holds A.low_holds A.has_decides A.of_holds A.join_holds A.narrow_holds A.facts_met A.absorb_holds A.absorb_within) (lawful B.Domain.own B.any_holds B.only_holds B.low_holds B.has_decides B.of_holds B.join_holds B.narrow_holds B.facts_met B.absorb_holds B.absorb_within) };
+    ghost absorb_holds = { ProductLaws.absorb_holds A.Domain.own B.Domain.own
+        (lawful A.Domain.own A.any_holds A.only_holds A.low_holds A.has_decides A.of_holds
+        A.join_holds A.narrow_holds A.facts_met A.absorb_holds A.absorb_within)
+        (lawful B.Domain.own B.any_holds B.only_holds B.low_holds B.has_decides B.of_holds
+        B.join_holds B.narrow_holds B.facts_met B.absorb_holds B.absorb_within) };
 
-    ghost absorb_within = { ProductLaws.absorb_within A.Domain.own B.Domain.own (lawful A.Domain.own A.any_holds A.only_holds A.low_holds A.has_decides A.of_holds A.join_holds A.narrow_holds A.facts_met A.absorb_holds A.absorb_within) (lawful B.Domain.own B.any_holds B.only_holds B.low_holds B.has_decides B.of_holds B.join_holds B.narrow_holds B.facts_met B.absorb_holds B.absorb_within) };
+    ghost absorb_within = { ProductLaws.absorb_within A.Domain.own B.Domain.own
+        (lawful A.Domain.own A.any_holds A.only_holds A.low_holds A.has_decides A.of_holds
+        A.join_holds A.narrow_holds A.facts_met A.absorb_holds A.absorb_within)
+        (lawful B.Domain.own B.any_holds B.only_holds B.low_holds B.has_decides B.of_holds
+        B.join_holds B.narrow_holds B.facts_met B.absorb_holds B.absorb_within) };
 
     fn any() -> Self {
         Product {

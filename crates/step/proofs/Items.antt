@@ -58,7 +58,7 @@ gives-ret (ret e) = tt
 -- ── what no report shows ──
 
 module _ {D : Type 0} (d : Ghosts D) (laws : Lawful d) where
-  -- an operation whose second operand is shown to fit has a result_of
+  -- an operation whose second operand is shown to fit has a result
   result_shown : (op : Operation) (b : D) (y : ℕ) → Word y → d.holds b y → alu_cause d op b ≡ None → Sticks op y → ⊥
   result_shown Add b y wy hb e s = s
   result_shown Sub b y wy hb e s = s

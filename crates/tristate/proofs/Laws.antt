@@ -44,8 +44,8 @@ reading-holds t x e = lawful-holds t.value (unknown t) x (unknown_lt t) e
 pub full-holds : (x : ℕ) → Holds full x
 full-holds x = held-full 0 x
 
-pub only-holds : (x : ℕ) → Holds (only x) x
-only-holds x = refl
+pub only_holds : (x : ℕ) → Holds (only x) x
+only_holds x = refl
 
 known-holds : (t : Tristate) → Holds t (known t)
 known-holds t = held-least t.value (unknown t) (unknown_lt t)
@@ -154,7 +154,7 @@ applied-holds Mul a b x y hx hy ea eb _ =
     subst (λ (k : ℕ). Holds (only (times (known a) (known b))) k)
     (sym (ap (λ (k : ℕ). times k y) (single-is a x hx (single-none a p.0) ea)
     ∙ ap (λ (k : ℕ). times (known a) k) (single-is b y hy (single-none b p.1) eb)))
-    (only-holds (times (known a) (known b))))
+    (only_holds (times (known a) (known b))))
 applied-holds Div a b x y hx hy ea eb _ =
     under (single a && (single b && ltb 0 (known b))) (only (known a / known b)) (x / y)
     (λ e. let p = both_true (single a) (single b && ltb 0 (known b)) e in
@@ -162,7 +162,7 @@ applied-holds Div a b x y hx hy ea eb _ =
     subst (λ (k : ℕ). Holds (only (known a / known b)) k)
     (sym (ap (λ (k : ℕ). k / y) (single-is a x hx (single-none a p.0) ea)
     ∙ ap (λ (k : ℕ). known a / k) (single-is b y hy (single-none b q.0) eb)))
-    (only-holds (known a / known b)))
+    (only_holds (known a / known b)))
 applied-holds And a b x y hx hy ea eb _ = (smallest And a b tt).holds x y hx hy ea eb
 applied-holds Or a b x y hx hy ea eb _ = (smallest Or a b tt).holds x y hx hy ea eb
 applied-holds Xor a b x y hx hy ea eb _ = (smallest Xor a b tt).holds x y hx hy ea eb

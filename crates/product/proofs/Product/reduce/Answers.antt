@@ -12,13 +12,13 @@ lawful-first g =
     let m = g.met.A.Domain in
     record {
       any_holds = m.any_holds;
-      only-holds = m.only_holds;
-      low-holds = m.low_holds;
+      only_holds = m.only_holds;
+      low_holds = m.low_holds;
       has_decides = m.has_decides;
       of_holds = m.of_holds;
       join_holds = m.join_holds;
       narrow_holds = m.narrow_holds;
-      facts-met = m.facts_met;
+      facts_met = m.facts_met;
       absorb_holds = m.absorb_holds;
       absorb_within = m.absorb_within;
     }
@@ -28,13 +28,13 @@ lawful-second g =
     let m = g.met.B.Domain in
     record {
       any_holds = m.any_holds;
-      only-holds = m.only_holds;
-      low-holds = m.low_holds;
+      only_holds = m.only_holds;
+      low_holds = m.low_holds;
       has_decides = m.has_decides;
       of_holds = m.of_holds;
       join_holds = m.join_holds;
       narrow_holds = m.narrow_holds;
-      facts-met = m.facts_met;
+      facts_met = m.facts_met;
       absorb_holds = m.absorb_holds;
       absorb_within = m.absorb_within;
     }
