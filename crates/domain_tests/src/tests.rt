@@ -101,9 +101,9 @@ fn every_domain_at_the_ends(rt: HostRuntime) {
         for other in ENDS.iter() {
             at_ends::<Tristate>(&rt, *word, *other);
             at_ends::<Range>(&rt, *word, *other);
-            at_ends::<ProductDomain<Tristate, Range>>(&rt, *word, *other);
+            at_ends::<Product<Tristate, Range>>(&rt, *word, *other);
             ordered_at_ends::<Range>(&rt, *word, *other);
-            ordered_at_ends::<ProductDomain<Tristate, Range>>(&rt, *word, *other);
+            ordered_at_ends::<Product<Tristate, Range>>(&rt, *word, *other);
         }
     }
 }

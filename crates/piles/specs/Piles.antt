@@ -1,6 +1,5 @@
 -- The low bits of a sum, over any domain, and over a pile of three.
-use Rattle.std.specs.Prelude.{ℕ}
-use Rattle.std.specs.Int.Bits.{bit_and}
+use Rattle.std.specs.Prelude.{ℕ, bit_and}
 use Rattle.domain.specs.declared.domain.Domain.{Ghosts}
 use Rattle.parity.specs.declared.Parity.{Parity}
 use Rattle.parity.specs.declared.Parity.TheVariants.{Even}

@@ -1,4 +1,5 @@
 //! Ranges of words.
+#![tactic(auto)]
 
 ghost use Rattle.std.specs.Prelude.{◌≡◌, ◌-◌, ◌^◌};
 ghost use Rattle.words.specs.Words.{length_of};

@@ -1,6 +1,7 @@
 //! Tristate numbers: words of which some bits are known and the others are not.
 //!
 //! The formulas are those of Linux's tnum.c.
+#![tactic(auto)]
 
 ghost use Rattle.std.specs.Prelude.{◌≡◌};
 ghost use Rattle.tristate.specs.Tristates.{common, conjunction, difference, disjunction, exclusion, full, known, most, only, product, quotient, reading, shifted_left, shifted_right, single, sum, unknown};

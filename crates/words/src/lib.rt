@@ -1,4 +1,5 @@
 //! What a machine does with words of 64 bits: its operations, its comparisons and its widths.
+#![tactic(auto)]
 
 mod operation;
 mod relation;

@@ -1,7 +1,5 @@
 -- From the laws of whichever domain it is.
-use mathlib.Core.Path.{sym, subst}
-use Prim.Native.Nat.{ℕ}
-use native.Mathlib.Omega.{arith}
+use Rattle.std.proofs.Common.{ℕ, arith, sym, subst}
 use Rattle.words.specs.declared.operation.Operation.TheVariants.{Add, And}
 use Rattle.words.specs.Words.{Word, plus}
 use Rattle.piles.specs.Piles.{HoldsMaskedSums, masked_sum}
