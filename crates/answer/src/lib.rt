@@ -1,5 +1,6 @@
 //! What is told of a text: the fault that it is refused for, or the reports of its check. The table and the lists of the
 //! check have a fixed size, and nothing is allocated.
+#![tactic(auto)]
 
 ghost use Rattle.std.specs.Prelude.{◌≡◌, true, length, MatchResult, OnOk};
 ghost use Rattle.machine.specs.Valid.{table_ok};

@@ -43,17 +43,19 @@ pub(crate) struct Told {
     pub(crate) cause: u8,
 }
 
-fn check_told(rt: &impl Abort, reports: &[Report], expected: &[Told]) {
-    assert_eq!(rt; reports.len(), expected.len(), "reports");
+/// The reports are these; where they are not, the rule is named.
+fn check_told(rt: &impl Abort, rule: &str, reports: &[Report], expected: &[Told]) {
+    assert_eq!(rt; reports.len(), expected.len(), "reports of {rule}");
     for (report, told) in reports.iter().zip(expected.iter()) {
-        assert_eq!(rt; report.line, told.line, "line");
-        assert_eq!(rt; report.cause.number(), told.cause, "cause");
+        assert_eq!(rt; report.line, told.line, "line in {rule}");
+        assert_eq!(rt; report.cause.number(), told.cause, "cause in {rule}");
     }
 }
 
 /// The check of a table comes to these reports. Its answer.
 pub(crate) fn answer<D: Domain>(
     rt: &impl Abort,
+    rule: &str,
     table: &[Record],
     expected: &[Told],
     rows: &mut [D],
@@ -63,7 +65,7 @@ pub(crate) fn answer<D: Domain>(
     match Draft::of(table).check(rows, marks, reports) {
         Ok(Tally { count, answer }) => {
             assert!(rt; count <= reports.len());
-            check_told(rt, &reports[0..count], expected);
+            check_told(rt, rule, &reports[0..count], expected);
             Ok(answer)
         }
         Err(_) => Err(Fail::new("the check was refused")),
@@ -83,6 +85,7 @@ pub(crate) fn answer_text<D: Domain>(
     }
     answer(
         rt,
+        text,
         &table,
         expected,
         rows,

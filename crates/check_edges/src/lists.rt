@@ -23,6 +23,7 @@ static RULE: [Record; 2] = [
 fn lists_just_long_enough(rt: HostRuntime) -> Result<(), Fail> {
     let answer = answer(
         &rt,
+        "two instructions",
         &RULE,
         &[],
         &mut [Standard::only(OLD_WORD); 16],

@@ -55,7 +55,7 @@ static CASES: [Case; 9] = [
 #[test]
 fn three_products_tell_the_same(rt: HostRuntime) -> Result<(), Fail> {
     for case in CASES.iter() {
-        all_tell(&rt, case.text, case.told).note(case.text)?;
+        all_tell(&rt, case.text, case.told)?;
     }
     Ok(())
 }

@@ -1,5 +1,6 @@
 //! Checks the routes of a small site against its signals and points by a rule. The rule is read, checked and passed, its
 //! memory is filled from the site's tables, and it runs once for each route; what it finds stands in a buffer of its own.
+#![tactic(auto)]
 
 mod site;
 

@@ -1,4 +1,6 @@
 //! Reads a rule text from standard input and prints what is told of it.
+#![tactic(auto)]
+
 ghost use Rattle.std.specs.Prelude.{◌≤◌, length, IfOk};
 
 use answer::{LONGEST, answer};

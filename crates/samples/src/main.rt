@@ -1,5 +1,7 @@
 //! Reads sample rules and compares what comes of each with the output that is expected of it.
 //! `names` lists the samples: NAME stands for the rule NAME.rule and its output NAME.out.
+#![tactic(auto)]
+
 ghost use Rattle.std.specs.Prelude.{◌≡◌, IfOk, None, string_bytes, Decides, MatchOption, MatchResult};
 ghost use Rattle.grammar.specs.Reading.{reading};
 ghost use Rattle.grammar.specs.Refusals.{refusal_of};

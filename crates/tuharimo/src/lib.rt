@@ -1,4 +1,6 @@
 //! The static library for tools in C or Rust: one call, over bytes and numbers.
+#![tactic(auto)]
+
 ghost use Rattle.std.specs.Prelude.{◌≡◌};
 ghost use Rattle.answer.specs.Answers.{answer_text};
 ghost use Rattle.report.specs.Printing.{output_after};
