@@ -1,21 +1,18 @@
 -- The laws of a product, from those of its parts.
-use Rattle.std.proofs.Common.{ℕ, ◌^◌, ◌<◌, ◌⊎◌, Some, None, Decides, Option, unwrap_or, inl, inr}
-use Rattle.std.proofs.lemmas.Bool.Decides.{Decides-and}
+use Rattle.std.proofs.Common.{ℕ, ◌⊎◌, Some, None, Option, unwrap_or, inl, inr}
 use Rattle.domain.specs.declared.domain.Domain.{Ghosts}
 use Rattle.domain.specs.declared.facts.Facts.{Facts}
 use Rattle.domain.specs.Facts.{Meets, combined}
 use Rattle.domain.specs.Lawful.{Lawful}
 use Rattle.product.specs.declared.Product.{Product}
-use Rattle.product.specs.Products.{Both, Exactly, absorbed, applied, every, joined, kept, member, met, narrowed, pair, paired, reduced, reduced_in, single, told, under}
+use Rattle.product.specs.Products.{Both, Exactly, absorbed, applied, joined, kept, met, narrowed, pair, paired, reduced, reduced_in}
 use Rattle.range.specs.Ranges as ranges
 use Rattle.range.proofs.Laws as range-laws
 use Rattle.tristate.specs.Tristates as bits
 use Rattle.tristate.proofs.Laws as bits-laws
 use Rattle.words.specs.declared.operation.Operation.{Operation}
 use Rattle.words.specs.declared.relation.Relation.{Relation}
-use Rattle.words.specs.declared.width.Width.{Width}
 use Rattle.words.specs.Sets.{HoldsIn}
-use Rattle.words.specs.Widths.{bits_of}
 use Rattle.words.specs.Words.{Word, Related, Sticks, result_of}
 use Rattle.words.proofs.Results.{result_word}
 
@@ -25,7 +22,7 @@ held-or : {X : Type 0} (P : X → ℕ → Type 0) (o : Option X) (x : X) (w : �
 held-or P None x w h = absurd h
 held-or P (Some y) x w h = h
 
-combined-met : (f g : Facts) (w : ℕ) → Meets f w → Meets g w → Meets (combined f g) w
+pub combined-met : (f g : Facts) (w : ℕ) → Meets f w → Meets g w → Meets (combined f g) w
 combined-met f g w hf hg = (
   held-or bits.Holds (bits.common f.bits g.bits) (bits.reading f.bits) w (bits-laws.common_keeps f.bits g.bits w hf.0 hg.0),
   held-or ranges.Within (ranges.common f.range g.range) (ranges.reading f.range) w
@@ -87,19 +84,6 @@ module _ {A B : Type 0} (a : Ghosts A) (b : Ghosts B) (la : Lawful a) (lb : Lawf
 
   -- ---- the laws
 
-  pub any_holds : (w : ℕ) → Word w → Both a b (every a b) w
-  any_holds w hw = (la.any_holds w hw, lb.any_holds w hw)
-
-  pub only_holds : (w : ℕ) → Word w → Both a b (single a b w) w
-  only_holds w hw = (la.only_holds w hw, lb.only_holds w hw)
-
-  pub low_holds : (k : Width) (w : ℕ) → w < 2 ^ bits_of k → Both a b (under a b k) w
-  low_holds k w h = (la.low_holds k w h, lb.low_holds k w h)
-
-  pub has_decides : (p : Product A B) (w : ℕ) → Word w → Decides (member a b p w) (Both a b p w)
-  has_decides p w hw =
-      Decides-and (a.member p.first w) (b.member p.second w) (la.has_decides p.first w hw) (lb.has_decides p.second w hw)
-
   pub of_holds : (op : Operation) (p q : Product A B) (x y : ℕ) → Word x → Word y → Both a b p x → Both a b q y → (Sticks op y → ⊥)
       → Both a b (applied a b op p q) (result_of op x y)
   of_holds op p q x y hx hy hp hq ok =
@@ -121,10 +105,6 @@ module _ {A B : Type 0} (a : Ghosts A) (b : Ghosts B) (la : Lawful a) (lb : Lawf
       (paired-holds (a.narrowed rel p.first q.first) (b.narrowed rel p.second q.second) x
       (la.narrow_holds rel p.first q.first x y hx hy hp.0 hq.0 r)
       (lb.narrow_holds rel p.second q.second x y hx hy hp.1 hq.1 r))
-
-  pub facts_met : (p : Product A B) (w : ℕ) → Word w → Both a b p w → Meets (told a b p) w
-  facts_met p w hw h =
-      combined-met (a.told p.first) (b.told p.second) w (la.facts_met p.first w hw h.0) (lb.facts_met p.second w hw h.1)
 
   pub absorb_holds : (p : Product A B) (f : Facts) (w : ℕ) → Word w → Both a b p w → Meets f w → HoldsIn (Both a b) (absorbed a b p f) w
   absorb_holds p f w hw h m =

@@ -5,6 +5,8 @@
 ghost use Rattle.std.specs.Prelude.{◌≡◌};
 ghost use Rattle.product.specs.Products.{Both, Exactly, absorbed, applied, every, joined, kept, member, narrowed, paired, reduced, reduced_in, single, told, under};
 ghost use Rattle.product.specs.Laws as ProductLaws;
+ghost use Rattle.product.specs.Laws.{combined-met};
+ghost use Rattle.std.proofs.lemmas.Bool.Decides.{Decides-and};
 ghost use Rattle.domain.specs.Lawful.{lawful};
 
 use domain::{Domain, Facts};
@@ -83,29 +85,14 @@ impl<A: Domain, B: Domain> Domain for Product<A, B> {
 
     ghost absorbed = { absorbed A.Domain B.Domain };
 
-    ghost any_holds = { ProductLaws.any_holds A.Domain.own B.Domain.own
-        (lawful A.Domain.own A.any_holds A.only_holds A.low_holds A.has_decides A.of_holds
-        A.join_holds A.narrow_holds A.facts_met A.absorb_holds A.absorb_within)
-        (lawful B.Domain.own B.any_holds B.only_holds B.low_holds B.has_decides B.of_holds
-        B.join_holds B.narrow_holds B.facts_met B.absorb_holds B.absorb_within) };
+    ghost any_holds = { λ w hw. (A.any_holds w hw, B.any_holds w hw) };
 
-    ghost only_holds = { ProductLaws.only_holds A.Domain.own B.Domain.own
-        (lawful A.Domain.own A.any_holds A.only_holds A.low_holds A.has_decides A.of_holds
-        A.join_holds A.narrow_holds A.facts_met A.absorb_holds A.absorb_within)
-        (lawful B.Domain.own B.any_holds B.only_holds B.low_holds B.has_decides B.of_holds
-        B.join_holds B.narrow_holds B.facts_met B.absorb_holds B.absorb_within) };
+    ghost only_holds = { λ w hw. (A.only_holds w hw, B.only_holds w hw) };
 
-    ghost low_holds = { ProductLaws.low_holds A.Domain.own B.Domain.own
-        (lawful A.Domain.own A.any_holds A.only_holds A.low_holds A.has_decides A.of_holds
-        A.join_holds A.narrow_holds A.facts_met A.absorb_holds A.absorb_within)
-        (lawful B.Domain.own B.any_holds B.only_holds B.low_holds B.has_decides B.of_holds
-        B.join_holds B.narrow_holds B.facts_met B.absorb_holds B.absorb_within) };
+    ghost low_holds = { λ k w h. (A.low_holds k w h, B.low_holds k w h) };
 
-    ghost has_decides = { ProductLaws.has_decides A.Domain.own B.Domain.own
-        (lawful A.Domain.own A.any_holds A.only_holds A.low_holds A.has_decides A.of_holds
-        A.join_holds A.narrow_holds A.facts_met A.absorb_holds A.absorb_within)
-        (lawful B.Domain.own B.any_holds B.only_holds B.low_holds B.has_decides B.of_holds
-        B.join_holds B.narrow_holds B.facts_met B.absorb_holds B.absorb_within) };
+    ghost has_decides = { λ p w hw.
+        Decides-and (A.member p.first w) (B.member p.second w) (A.has_decides p.first w hw) (B.has_decides p.second w hw) };
 
     ghost of_holds = { ProductLaws.of_holds A.Domain.own B.Domain.own
         (lawful A.Domain.own A.any_holds A.only_holds A.low_holds A.has_decides A.of_holds
@@ -125,11 +112,8 @@ impl<A: Domain, B: Domain> Domain for Product<A, B> {
         (lawful B.Domain.own B.any_holds B.only_holds B.low_holds B.has_decides B.of_holds
         B.join_holds B.narrow_holds B.facts_met B.absorb_holds B.absorb_within) };
 
-    ghost facts_met = { ProductLaws.facts_met A.Domain.own B.Domain.own
-        (lawful A.Domain.own A.any_holds A.only_holds A.low_holds A.has_decides A.of_holds
-        A.join_holds A.narrow_holds A.facts_met A.absorb_holds A.absorb_within)
-        (lawful B.Domain.own B.any_holds B.only_holds B.low_holds B.has_decides B.of_holds
-        B.join_holds B.narrow_holds B.facts_met B.absorb_holds B.absorb_within) };
+    ghost facts_met = { λ p w hw h.
+        combined-met (A.told p.first) (B.told p.second) w (A.facts_met p.first w hw h.0) (B.facts_met p.second w hw h.1) };
 
     ghost absorb_holds = { ProductLaws.absorb_holds A.Domain.own B.Domain.own
         (lawful A.Domain.own A.any_holds A.only_holds A.low_holds A.has_decides A.of_holds

@@ -1,6 +1,6 @@
 use Rattle.std.proofs.Common.{◌≡◌, ◌*◌, true, ◌&&◌, leb, length, sym, ap, ◌∙◌, subst}
 use Rattle.std.proofs.lemmas.Bool.{and_parts, leb-true}
-use Rattle.domain.specs.Lawful.{Lawful}
+use Rattle.domain.specs.Lawful.{Lawful, lawful}
 use Rattle.machine.specs.Tables.{code_length}
 use Rattle.machine.proofs.Layouts.{layout_found}
 use Rattle.machine.proofs.Validity.{valid-from}
@@ -14,21 +14,8 @@ use Rattle.checker.proofs.check.judge.Given as given
 use Rattle.checker.proofs.check.judge.Goals as goal
 
 -- the laws that the bound brings, as the one record that the proof over every domain asks for
-lawful : (g : given.Over) → Lawful g.D.Domain
-lawful g =
-    let m = g.met.D.Domain in
-    record {
-      any_holds = m.any_holds;
-      only_holds = m.only_holds;
-      low_holds = m.low_holds;
-      has_decides = m.has_decides;
-      of_holds = m.of_holds;
-      join_holds = m.join_holds;
-      narrow_holds = m.narrow_holds;
-      facts_met = m.facts_met;
-      absorb_holds = m.absorb_holds;
-      absorb_within = m.absorb_within;
-    }
+shown : (g : given.Over) → Lawful g.D.Domain
+shown g = let m = g.met.D.Domain in lawful g.D.Domain m.any_holds m.only_holds m.low_holds m.has_decides m.of_holds m.join_holds m.narrow_holds m.facts_met m.absorb_holds m.absorb_within
 
 pub returns : goal.returns
 returns g c =
@@ -51,5 +38,5 @@ returns g c =
       value = value;
       exact = subst (Exact d p rows marks reports) (sym value) (exact d p valid rows marks reports (leb-true _ _ rest.1));
       sound = λ none. subst (λ (s : Sheet g.row.D.Denot). Sound d p s.answer) (sym value)
-          (sound d (lawful g) p valid rows marks reports (leb-true _ _ parts.0) (leb-true _ _ rest.0) (sym (ap (λ (s : Sheet g.row.D.Denot). s.count) value) ∙ none));
+          (sound d (shown g) p valid rows marks reports (leb-true _ _ parts.0) (leb-true _ _ rest.0) (sym (ap (λ (s : Sheet g.row.D.Denot). s.count) value) ∙ none));
     }
