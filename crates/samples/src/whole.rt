@@ -4,7 +4,7 @@ ghost use Rattle.answer.specs.Answers.{answer_text};
 
 use answer::{LONGEST, answer};
 
-/// Whether a text is answered as expected, to the byte.
+/// True only where a text is answered as expected, to the byte.
 pub(crate) fn is_answered(text: &[u8], expected: &[u8]) -> bool
     ensures { result ≡ true → answer_text text.now ≡ expected.now }
 {
