@@ -1,72 +1,63 @@
-use words::{Operation, Width};
+ghost use Rattle.std.specs.Prelude.{◌≡◌};
+ghost use Rattle.rule.specs.Records.{is_blank, is_buffer, size_in, writable_in};
+
+use super::instruction::Instruction;
 
 /// Whether a rule may store into a buffer.
-#[derive(Clone, Copy)]
+#[derive(Clone, Copy, PartialEq, Eq, Debug)]
 pub enum Mode {
     ReadOnly,
     ReadWrite,
 }
 
-/// What an instruction reads: a register by its number, or a constant.
-#[derive(Clone, Copy)]
-pub enum Operand {
-    Register(u8),
-    Constant(u64),
-}
-
-/// On what a branch jumps: `jeq`, `jne`, `jlt` and `jle`.
-#[derive(Clone, Copy)]
-pub enum Condition {
-    Equal,
-    Unequal,
-    Less,
-    LessOrEqual,
-}
-
-/// What a record says. Registers go by their number, buffers and instructions by their place among their kind, from 0.
-#[derive(Clone, Copy)]
+/// What a record says.
+#[derive(Clone, Copy, PartialEq, Eq, Debug)]
 pub enum Item {
     /// Nothing: the record is not in use.
     Blank,
-    Buffer {
-        size: usize,
-        mode: Mode,
-    },
-    Mov {
-        target: u8,
-        source: Operand,
-    },
-    Alu {
-        operation: Operation,
-        target: u8,
-        operand: Operand,
-    },
-    Load {
-        width: Width,
-        target: u8,
-        buffer: usize,
-        index: Operand,
-    },
-    Store {
-        width: Width,
-        buffer: usize,
-        index: Operand,
-        source: u8,
-    },
-    Jump {
-        to: usize,
-    },
-    Branch {
-        condition: Condition,
-        left: u8,
-        right: Operand,
-        to: usize,
-    },
-    Ret,
+    Buffer { size: usize, mode: Mode },
+    Instruction(Instruction<usize>),
+}
+
+impl Item {
+    pub fn is_blank(self) -> bool
+        ensures { result ≡ is_blank self }
+    {
+        matches!(self, Item::Blank)
+    }
+
+    pub fn is_buffer(self) -> bool
+        ensures { result ≡ is_buffer self }
+    {
+        matches!(self, Item::Buffer { .. })
+    }
+
+    /// The size of a buffer, and else 0.
+    pub fn size(self) -> usize
+        ensures { result ≡ size_in self }
+    {
+        match self {
+            Item::Buffer { size, .. } => size,
+            Item::Blank | Item::Instruction(_) => 0,
+        }
+    }
+
+    /// May a rule store into it? Into a buffer alone, if its mode lets it.
+    pub fn is_writable(self) -> bool
+        ensures { result ≡ writable_in self }
+    {
+        matches!(
+            self,
+            Item::Buffer {
+                mode: Mode::ReadWrite,
+                ..
+            }
+        )
+    }
 }
 
 /// One line of a rule: its number in the text, from 1, and what it says.
-#[derive(Clone, Copy)]
+#[derive(Clone, Copy, PartialEq, Eq, Debug)]
 pub struct Record {
     pub line: usize,
     pub item: Item,
