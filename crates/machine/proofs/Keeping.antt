@@ -4,7 +4,8 @@ use Rattle.std.proofs.lemmas.List.{get_or_append_left, get_or-append_right, get_
 use Rattle.std.proofs.lemmas.Bool.{cases_lt, cases_eq, both_ways}
 use Rattle.words.specs.Widths.{bytes_of}
 use Rattle.rule.specs.declared.record.Item.{Item}
-use Rattle.rule.specs.declared.record.Item.TheVariants.{Blank, Buffer, Mov, Alu, Load, Store, Jump, Branch, Ret}
+use Rattle.rule.specs.declared.record.Item.TheVariants.{Blank, Buffer, Instruction}
+use Rattle.rule.specs.declared.instruction.Instruction.TheVariants.{Mov, Alu, Load, Store, Jump, Branch, Ret}
 use Rattle.rule.specs.declared.record.Record.{Record}
 use Rattle.machine.specs.Machine.{Regs, Does}
 use Rattle.machine.specs.Machine.Does.{store}
@@ -71,14 +72,14 @@ keeps_written p m b i bs sized there writable within =
     }
 
 pub keeps_step : (p : List Record) (n k : ℕ) (r : Regs) (m : List ℕ) (j : ℕ) (q : Regs) (o : List ℕ) (i : Item) → ValidItem p n k i → length m ≡ total_size p → Does p k r j q i → Touches p r m q o i → Keeps p m o
-keeps_step p n k r m j q o (Mov t s) v sized d e = keeps_same p m o e
-keeps_step p n k r m j q o (Alu op t s) v sized d e = keeps_same p m o e
-keeps_step p n k r m j q o (Load w t b s) v sized d e = keeps_same p m o e.1
-keeps_step p n k r m j q o (Store w b s t) v sized (store i x ei ex re ej eq) e =
+keeps_step p n k r m j q o (Instruction (Mov t s)) v sized d e = keeps_same p m o e
+keeps_step p n k r m j q o (Instruction (Alu op t s)) v sized d e = keeps_same p m o e
+keeps_step p n k r m j q o (Instruction (Load w t b s)) v sized d e = keeps_same p m o e.1
+keeps_step p n k r m j q o (Instruction (Store w b s t)) v sized (store i x ei ex re ej eq) e =
     let long = bytes-long (bytes_of w) x in
     subst (Keeps p m) (sym (e i x ei ex)) (keeps_written p m b i (bytes_in (bytes_of w) x) sized v.0 v.1 (omega (arith, re.inside)))
-keeps_step p n k r m j q o (Jump to) v sized d e = keeps_same p m o e
-keeps_step p n k r m j q o (Branch c l s to) v sized d e = keeps_same p m o e
-keeps_step p n k r m j q o Ret v sized d e = keeps_same p m o e
+keeps_step p n k r m j q o (Instruction (Jump to)) v sized d e = keeps_same p m o e
+keeps_step p n k r m j q o (Instruction (Branch c l s to)) v sized d e = keeps_same p m o e
+keeps_step p n k r m j q o (Instruction Ret) v sized d e = keeps_same p m o e
 keeps_step p n k r m j q o (Buffer size mode) v sized d e = keeps_same p m o e
 keeps_step p n k r m j q o Blank v sized d e = keeps_same p m o e

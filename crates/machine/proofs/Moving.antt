@@ -4,9 +4,10 @@ use Rattle.std.proofs.lemmas.Bool.{both_ways, cases_eq}
 use Rattle.words.specs.Widths.{bytes_of}
 use Rattle.words.specs.Words.{Sticks}
 use Rattle.rule.specs.declared.record.Item.{Item}
-use Rattle.rule.specs.declared.record.Item.TheVariants.{Blank, Buffer, Mov, Alu, Load, Store, Jump, Branch, Ret}
-use Rattle.rule.specs.declared.record.Operand.{Operand}
-use Rattle.rule.specs.declared.record.Operand.TheVariants.{Register, Constant}
+use Rattle.rule.specs.declared.record.Item.TheVariants.{Blank, Buffer, Instruction}
+use Rattle.rule.specs.declared.instruction.Instruction.TheVariants.{Mov, Alu, Load, Store, Jump, Branch, Ret}
+use Rattle.rule.specs.declared.instruction.Operand.{Operand}
+use Rattle.rule.specs.declared.instruction.Operand.TheVariants.{Register, Constant}
 use Rattle.rule.specs.declared.record.Record.{Record}
 use Rattle.machine.specs.Machine.{Regs, value, Does, Gives, Moves, register_in, reads, In, Stuck}
 use Rattle.machine.specs.Machine.Does.{mov, alu, load, store, jump, taken, missed}
@@ -34,48 +35,48 @@ in_append k (x ∷ xs) ys (inr h) = ⊎_elim (λ a. inl (inr a)) (λ b. inr b) (
 
 -- every register that is read is set
 does_set : (p : List Record) (k : ℕ) (r : Regs) (j : ℕ) (q : Regs) (i : Item) → Does p k r j q i → (m : ℕ) → In m (reads i) → r m ≡ None → ⊥
-does_set p k r j q (Mov t s) (mov x e ej eq) m h n = operand_set r s m x e h n
-does_set p k r j q (Alu op t s) (alu x y ex ey ok ej eq) m (inl same) n = none-some (r t) x (ap r (sym same) ∙ n) ex
-does_set p k r j q (Alu op t s) (alu x y ex ey ok ej eq) m (inr h) n = operand_set r s m y ey h n
-does_set p k r j q (Load w t b s) (load i x e re hx ej eq) m h n = operand_set r s m i e h n
-does_set p k r j q (Store w b s t) (store i x e ex re ej eq) m h n =
+does_set p k r j q (Instruction (Mov t s)) (mov x e ej eq) m h n = operand_set r s m x e h n
+does_set p k r j q (Instruction (Alu op t s)) (alu x y ex ey ok ej eq) m (inl same) n = none-some (r t) x (ap r (sym same) ∙ n) ex
+does_set p k r j q (Instruction (Alu op t s)) (alu x y ex ey ok ej eq) m (inr h) n = operand_set r s m y ey h n
+does_set p k r j q (Instruction (Load w t b s)) (load i x e re hx ej eq) m h n = operand_set r s m i e h n
+does_set p k r j q (Instruction (Store w b s t)) (store i x e ex re ej eq) m h n =
     ⊎_elim (λ a. operand_set r s m i e a n) (λ b. ⊎_elim (λ same. none-some (r t) x (ap r (sym same) ∙ n) ex) (λ never. never) b) (in_append m (register_in s) (t ∷ []) h)
-does_set p k r j q (Jump to) (jump ej eq) m h n = h
-does_set p k r j q (Branch c l s to) (taken x y ex ey re ej eq) m (inl same) n = none-some (r l) x (ap r (sym same) ∙ n) ex
-does_set p k r j q (Branch c l s to) (taken x y ex ey re ej eq) m (inr h) n = operand_set r s m y ey h n
-does_set p k r j q (Branch c l s to) (missed x y ex ey re ej eq) m (inl same) n = none-some (r l) x (ap r (sym same) ∙ n) ex
-does_set p k r j q (Branch c l s to) (missed x y ex ey re ej eq) m (inr h) n = operand_set r s m y ey h n
+does_set p k r j q (Instruction (Jump to)) (jump ej eq) m h n = h
+does_set p k r j q (Instruction (Branch c l s to)) (taken x y ex ey re ej eq) m (inl same) n = none-some (r l) x (ap r (sym same) ∙ n) ex
+does_set p k r j q (Instruction (Branch c l s to)) (taken x y ex ey re ej eq) m (inr h) n = operand_set r s m y ey h n
+does_set p k r j q (Instruction (Branch c l s to)) (missed x y ex ey re ej eq) m (inl same) n = none-some (r l) x (ap r (sym same) ∙ n) ex
+does_set p k r j q (Instruction (Branch c l s to)) (missed x y ex ey re ej eq) m (inr h) n = operand_set r s m y ey h n
 does_set p k r j q Blank d m h n = elim d [ ]
 does_set p k r j q (Buffer size mode) d m h n = elim d [ ]
-does_set p k r j q Ret d m h n = elim d [ ]
+does_set p k r j q (Instruction Ret) d m h n = elim d [ ]
 
 gives_set : (r : Regs) (x : ℕ) (i : Item) → Gives r x i → (m : ℕ) → In m (reads i) → r m ≡ None → ⊥
-gives_set r x Ret (ret e) m (inl same) n = none-some (r 0) x (ap r (sym same) ∙ n) e
-gives_set r x Ret (ret e) m (inr never) n = never
+gives_set r x (Instruction Ret) (ret e) m (inl same) n = none-some (r 0) x (ap r (sym same) ∙ n) e
+gives_set r x (Instruction Ret) (ret e) m (inr never) n = never
 gives_set r x Blank g m h n = elim g [ ]
 gives_set r x (Buffer size mode) g m h n = elim g [ ]
-gives_set r x (Mov t s) g m h n = elim g [ ]
-gives_set r x (Alu op t s) g m h n = elim g [ ]
-gives_set r x (Load w t b s) g m h n = elim g [ ]
-gives_set r x (Store w b s t) g m h n = elim g [ ]
-gives_set r x (Jump to) g m h n = elim g [ ]
-gives_set r x (Branch c l s to) g m h n = elim g [ ]
+gives_set r x (Instruction (Mov t s)) g m h n = elim g [ ]
+gives_set r x (Instruction (Alu op t s)) g m h n = elim g [ ]
+gives_set r x (Instruction (Load w t b s)) g m h n = elim g [ ]
+gives_set r x (Instruction (Store w b s t)) g m h n = elim g [ ]
+gives_set r x (Instruction (Jump to)) g m h n = elim g [ ]
+gives_set r x (Instruction (Branch c l s to)) g m h n = elim g [ ]
 
 does_free : (p : List Record) (k : ℕ) (r : Regs) (j : ℕ) (q : Regs) (i : Item) → Does p k r j q i → Stuck p r i → ⊥
 does_free p k r j q i d (unset m h n) = does_set p k r j q i d m h n
-does_free p k r j q (Alu op t s) (alu x y ex ey ok ej eq) (no_result z ez st) = ok (subst (Sticks op) (some_same (value r s) z y ez ey) st)
-does_free p k r j q (Load w t b s) (load i x e re hx ej eq) (load_beyond z ez st) = let same = some_same (value r s) i z e ez in omega (arith, re.inside, st)
-does_free p k r j q (Load w t b s) (load i x e re hx ej eq) (load_askew z ez st) = st (subst (λ n. n % bytes_of w ≡ 0) (some_same (value r s) i z e ez) re.even)
-does_free p k r j q (Store w b s t) (store i x e ex re ej eq) (store_beyond z ez st) = let same = some_same (value r s) i z e ez in omega (arith, re.inside, st)
-does_free p k r j q (Store w b s t) (store i x e ex re ej eq) (store_askew z ez st) = st (subst (λ n. n % bytes_of w ≡ 0) (some_same (value r s) i z e ez) re.even)
+does_free p k r j q (Instruction (Alu op t s)) (alu x y ex ey ok ej eq) (no_result z ez st) = ok (subst (Sticks op) (some_same (value r s) z y ez ey) st)
+does_free p k r j q (Instruction (Load w t b s)) (load i x e re hx ej eq) (load_beyond z ez st) = let same = some_same (value r s) i z e ez in omega (arith, re.inside, st)
+does_free p k r j q (Instruction (Load w t b s)) (load i x e re hx ej eq) (load_askew z ez st) = st (subst (λ n. n % bytes_of w ≡ 0) (some_same (value r s) i z e ez) re.even)
+does_free p k r j q (Instruction (Store w b s t)) (store i x e ex re ej eq) (store_beyond z ez st) = let same = some_same (value r s) i z e ez in omega (arith, re.inside, st)
+does_free p k r j q (Instruction (Store w b s t)) (store i x e ex re ej eq) (store_askew z ez st) = st (subst (λ n. n % bytes_of w ≡ 0) (some_same (value r s) i z e ez) re.even)
 
 gives-free : (p : List Record) (r : Regs) (x : ℕ) (i : Item) → Gives r x i → Stuck p r i → ⊥
 gives-free p r x i g (unset m h n) = gives_set r x i g m h n
-gives-free p r x (Alu op t s) g (no_result z ez st) = elim g [ ]
-gives-free p r x (Load w t b s) g (load_beyond z ez st) = elim g [ ]
-gives-free p r x (Load w t b s) g (load_askew z ez st) = elim g [ ]
-gives-free p r x (Store w b s t) g (store_beyond z ez st) = elim g [ ]
-gives-free p r x (Store w b s t) g (store_askew z ez st) = elim g [ ]
+gives-free p r x (Instruction (Alu op t s)) g (no_result z ez st) = elim g [ ]
+gives-free p r x (Instruction (Load w t b s)) g (load_beyond z ez st) = elim g [ ]
+gives-free p r x (Instruction (Load w t b s)) g (load_askew z ez st) = elim g [ ]
+gives-free p r x (Instruction (Store w b s t)) g (store_beyond z ez st) = elim g [ ]
+gives-free p r x (Instruction (Store w b s t)) g (store_askew z ez st) = elim g [ ]
 
 pub not_stuck : (p : List Record) (k : ℕ) (r : Regs) (i : Item) → Moves p k r i → Stuck p r i → ⊥
 not_stuck p k r i m s = ⊎_elim (λ g. gives-free p r g.0 i g.1 s) (λ d. does_free p k r d.0 d.1 i d.2 s) m
@@ -83,26 +84,26 @@ not_stuck p k r i m s = ⊎_elim (λ g. gives-free p r g.0 i g.1 s) (λ d. does_
 -- ── forward, and not past the end ──
 
 not-ret : (p : List Record) (k : ℕ) (r : Regs) (j : ℕ) (q : Regs) (i : Item) → Does p k r j q i → is_ret i ≡ true → ⊥
-not-ret p k r j q (Mov t s) d e = both_ways false refl e
-not-ret p k r j q (Alu op t s) d e = both_ways false refl e
-not-ret p k r j q (Load w t b s) d e = both_ways false refl e
-not-ret p k r j q (Store w b s t) d e = both_ways false refl e
-not-ret p k r j q (Jump to) d e = both_ways false refl e
-not-ret p k r j q (Branch c l s to) d e = both_ways false refl e
-not-ret p k r j q Ret d e = elim d [ ]
+not-ret p k r j q (Instruction (Mov t s)) d e = both_ways false refl e
+not-ret p k r j q (Instruction (Alu op t s)) d e = both_ways false refl e
+not-ret p k r j q (Instruction (Load w t b s)) d e = both_ways false refl e
+not-ret p k r j q (Instruction (Store w b s t)) d e = both_ways false refl e
+not-ret p k r j q (Instruction (Jump to)) d e = both_ways false refl e
+not-ret p k r j q (Instruction (Branch c l s to)) d e = both_ways false refl e
+not-ret p k r j q (Instruction Ret) d e = elim d [ ]
 not-ret p k r j q (Buffer size mode) d e = elim d [ ]
 not-ret p k r j q Blank d e = elim d [ ]
 
 -- where a step leads: to the next instruction or to a later one of n
 goes : (p : List Record) (n k : ℕ) (r : Regs) (j : ℕ) (q : Regs) (i : Item) → ValidItem p n k i → Does p k r j q i → (j ≡ k + 1) ⊎ ((k < j) × (j < n))
-goes p n k r j q (Mov t s) v (mov x e ej eq) = inl ej
-goes p n k r j q (Alu op t s) v (alu x y ex ey ok ej eq) = inl ej
-goes p n k r j q (Load w t b s) v (load i x e re hx ej eq) = inl ej
-goes p n k r j q (Store w b s t) v (store i x e ex re ej eq) = inl ej
-goes p n k r j q (Jump to) v (jump ej eq) = inr (omega (arith, v.0), omega (arith, v.1))
-goes p n k r j q (Branch c l s to) v (taken x y ex ey re ej eq) = inr (omega (arith, v.2), omega (arith, v.3))
-goes p n k r j q (Branch c l s to) v (missed x y ex ey re ej eq) = inl ej
-goes p n k r j q Ret v d = elim d [ ]
+goes p n k r j q (Instruction (Mov t s)) v (mov x e ej eq) = inl ej
+goes p n k r j q (Instruction (Alu op t s)) v (alu x y ex ey ok ej eq) = inl ej
+goes p n k r j q (Instruction (Load w t b s)) v (load i x e re hx ej eq) = inl ej
+goes p n k r j q (Instruction (Store w b s t)) v (store i x e ex re ej eq) = inl ej
+goes p n k r j q (Instruction (Jump to)) v (jump ej eq) = inr (omega (arith, v.0), omega (arith, v.1))
+goes p n k r j q (Instruction (Branch c l s to)) v (taken x y ex ey re ej eq) = inr (omega (arith, v.2), omega (arith, v.3))
+goes p n k r j q (Instruction (Branch c l s to)) v (missed x y ex ey re ej eq) = inl ej
+goes p n k r j q (Instruction Ret) v d = elim d [ ]
 goes p n k r j q (Buffer size mode) v d = elim d [ ]
 goes p n k r j q Blank v d = elim d [ ]
 

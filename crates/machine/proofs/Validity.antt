@@ -1,15 +1,15 @@
 -- A table that passes the test is a rule.
-use Rattle.std.proofs.Common.{◌≡◌, ℕ, zero, suc, ◌-◌, ◌<◌, true, false, ◌&&◌, ltb, leb, List, get_or, Option, sym, refl, ◌∙◌, subst, inl, inr, ⊎_elim, arith}
-use Rattle.std.proofs.lemmas.Bool.{and_parts, ltb-true, leb-true, cases_eq, cases_Bool, cond-true, cond-false, both_ways}
+use Rattle.std.proofs.Common.{◌≡◌, ℕ, zero, suc, ◌-◌, ◌<◌, true, false, ◌&&◌, ltb, leb, List, get_or, sym, refl, subst, inl, inr, arith}
+use Rattle.std.proofs.lemmas.Bool.{and_parts, ltb-true, leb-true, cases_eq, both_ways}
 use Rattle.rule.specs.declared.record.Item.{Item}
-use Rattle.rule.specs.declared.record.Item.TheVariants.{Blank, Buffer, Mov, Alu, Load, Store, Jump, Branch, Ret}
-use Rattle.rule.specs.declared.record.Operand.{Operand}
-use Rattle.rule.specs.declared.record.Operand.TheVariants.{Register, Constant}
+use Rattle.rule.specs.declared.record.Item.TheVariants.{Blank, Buffer, Instruction}
+use Rattle.rule.specs.declared.instruction.Instruction.TheVariants.{Mov, Alu, Load, Store, Jump, Branch, Ret}
+use Rattle.rule.specs.declared.instruction.Operand.{Operand}
+use Rattle.rule.specs.declared.instruction.Operand.TheVariants.{Register, Constant}
 use Rattle.rule.specs.declared.record.Record.{Record}
 use Rattle.rule.specs.Records.{blank}
-use Rattle.machine.specs.declared.layout.Layout.{Layout}
 use Rattle.machine.specs.Tables.{buffer_count, code_length, behind, writable_at}
-use Rattle.machine.specs.Valid.{operand_ok, jump_ok, item_ok, code_ok, is_ret, heads_ok, counts_ok, rest_ok, table_ok, layout_of, ValidOperand, ValidItem, Valid, ValidIn}
+use Rattle.machine.specs.Valid.{operand_ok, jump_ok, item_ok, code_ok, is_ret, heads_ok, counts_ok, rest_ok, table_ok, ValidOperand, ValidItem, Valid}
 
 operand_from : (s : Operand) → operand_ok s ≡ true → ValidOperand s
 operand_from (Register k) e = ltb-true _ _ e
@@ -19,24 +19,24 @@ jump-from : (n k to : ℕ) → jump_ok n k to ≡ true → (k < to) × (to < n)
 jump-from n k to e = let h = and_parts (ltb k to) (ltb to n) e in (ltb-true _ _ h.0, ltb-true _ _ h.1)
 
 item_from : (p : List Record) (n k : ℕ) (i : Item) → item_ok p n k i ≡ true → ValidItem p n k i
-item_from p n k (Mov t s) e = let h = and_parts (ltb t 8) (operand_ok s) e in (ltb-true _ _ h.0, operand_from s h.1)
-item_from p n k (Alu op t s) e = let h = and_parts (ltb t 8) (operand_ok s) e in (ltb-true _ _ h.0, operand_from s h.1)
-item_from p n k (Load w t b s) e =
+item_from p n k (Instruction (Mov t s)) e = let h = and_parts (ltb t 8) (operand_ok s) e in (ltb-true _ _ h.0, operand_from s h.1)
+item_from p n k (Instruction (Alu op t s)) e = let h = and_parts (ltb t 8) (operand_ok s) e in (ltb-true _ _ h.0, operand_from s h.1)
+item_from p n k (Instruction (Load w t b s)) e =
     let h = and_parts (ltb t 8) (ltb b (buffer_count p) && operand_ok s) e in
     let g = and_parts (ltb b (buffer_count p)) (operand_ok s) h.1 in
     (ltb-true _ _ h.0, ltb-true _ _ g.0, operand_from s g.1)
-item_from p n k (Store w b s t) e =
+item_from p n k (Instruction (Store w b s t)) e =
     let h = and_parts (ltb b (buffer_count p) && writable_at p b) (operand_ok s && ltb t 8) e in
     let f = and_parts (ltb b (buffer_count p)) (writable_at p b) h.0 in
     let g = and_parts (operand_ok s) (ltb t 8) h.1 in
     (ltb-true _ _ f.0, f.1, operand_from s g.0, ltb-true _ _ g.1)
-item_from p n k (Jump to) e = jump-from n k to e
-item_from p n k (Branch c l s to) e =
+item_from p n k (Instruction (Jump to)) e = jump-from n k to e
+item_from p n k (Instruction (Branch c l s to)) e =
     let h = and_parts (ltb l 8) (operand_ok s && jump_ok n k to) e in
     let g = and_parts (operand_ok s) (jump_ok n k to) h.1 in
     let j = jump-from n k to g.1 in
     (ltb-true _ _ h.0, operand_from s g.0, j.0, j.1)
-item_from p n k Ret e = tt
+item_from p n k (Instruction Ret) e = tt
 item_from p n k (Buffer size mode) e = both_ways false refl e
 item_from p n k Blank e = both_ways false refl e
 
@@ -68,11 +68,3 @@ valid-from p e =
       items = λ k l. code-from p cs n n k g.0 l;
       last = g.1;
     }
-
--- the answer that the definition gives is some layout for valid tables alone
-pub valid_in : (p : List Record) (o : Option Layout) → o ≡ layout_of p → ValidIn o p
-valid_in p o e =
-    ⊎_elim
-    (λ passes. subst (λ l. ValidIn l p) (sym (e ∙ cond-true (table_ok p) _ _ passes)) (valid-from p passes))
-    (λ fails. subst (λ l. ValidIn l p) (sym (e ∙ cond-false (table_ok p) _ _ fails)) tt)
-    (cases_Bool (table_ok p))

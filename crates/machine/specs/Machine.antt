@@ -3,16 +3,15 @@ use Rattle.std.specs.Prelude.{◌≡◌, ℕ, suc, ◌+◌, ◌%◌, ◌^◌, �
 use Rattle.words.specs.Widths.{bits_of, bytes_of}
 use Rattle.words.specs.Words.{Word, result_of, Sticks, Related}
 use Rattle.words.specs.declared.operation.Operation.{Operation}
-use Rattle.words.specs.declared.relation.Relation.{Relation}
-use Rattle.words.specs.declared.relation.Relation.TheVariants as relation
 use Rattle.words.specs.declared.width.Width.{Width}
-use Rattle.rule.specs.declared.record.Condition.{Condition}
-use Rattle.rule.specs.declared.record.Condition.TheVariants.{Equal, Unequal, Less, LessOrEqual}
+use Rattle.rule.specs.declared.instruction.Condition.{Condition}
 use Rattle.rule.specs.declared.record.Item.{Item}
-use Rattle.rule.specs.declared.record.Item.TheVariants.{Blank, Buffer, Mov, Alu, Load, Store, Jump, Branch, Ret}
-use Rattle.rule.specs.declared.record.Operand.{Operand}
-use Rattle.rule.specs.declared.record.Operand.TheVariants.{Register, Constant}
+use Rattle.rule.specs.declared.record.Item.TheVariants.{Blank, Buffer, Instruction}
+use Rattle.rule.specs.declared.instruction.Instruction.TheVariants.{Mov, Alu, Load, Store, Jump, Branch, Ret}
+use Rattle.rule.specs.declared.instruction.Operand.{Operand}
+use Rattle.rule.specs.declared.instruction.Operand.TheVariants.{Register, Constant}
 use Rattle.rule.specs.declared.record.Record.{Record}
+use Rattle.rule.specs.Instructions.{relation_of}
 use Rattle.machine.specs.Tables.{code_length, item_at, size_at}
 
 -- what each register has, if it is set
@@ -26,13 +25,6 @@ abbrev pub value : Regs → Operand → Option ℕ
 value r (Register k) = r k
 value r (Constant c) = Some c
 
--- the relation on which a branch jumps
-abbrev pub relation_of : Condition → Relation
-relation_of Equal = relation.Equal
-relation_of Unequal = relation.Unequal
-relation_of Less = relation.Less
-relation_of LessOrEqual = relation.LessOrEqual
-
 -- the bytes of a width from place i on lie in the buffer, and the place is a multiple of the width
 pub record Reaches (p : List Record) (b : ℕ) (w : Width) (i : ℕ) : Type 0 where
   pub inside : i + bytes_of w ≤ size_at p b
@@ -41,17 +33,17 @@ pub record Reaches (p : List Record) (b : ℕ) (w : Width) (i : ℕ) : Type 0 wh
 -- one step of the instruction at k, from the registers r, to the instruction j with the registers q. What a load brings
 -- is any word of its width, which is what any bytes of that width make; what a store leaves in a buffer does not matter here
 pub data Does (p : List Record) (k : ℕ) (r : Regs) (j : ℕ) (q : Regs) : Item → Type 0 where
-  mov : {t : ℕ} {s : Operand} (x : ℕ) → value r s ≡ Some x → j ≡ k + 1 → q ≡ put r t x → Does p k r j q (Mov t s)
-  alu : {op : Operation} {t : ℕ} {s : Operand} (x y : ℕ) → r t ≡ Some x → value r s ≡ Some y → (Sticks op y → ⊥) → j ≡ k + 1 → q ≡ put r t (result_of op x y) → Does p k r j q (Alu op t s)
-  load : {w : Width} {t b : ℕ} {s : Operand} (i x : ℕ) → value r s ≡ Some i → Reaches p b w i → x < 2 ^ bits_of w → j ≡ k + 1 → q ≡ put r t x → Does p k r j q (Load w t b s)
-  store : {w : Width} {b : ℕ} {s : Operand} {t : ℕ} (i x : ℕ) → value r s ≡ Some i → r t ≡ Some x → Reaches p b w i → j ≡ k + 1 → q ≡ r → Does p k r j q (Store w b s t)
-  jump : {to : ℕ} → j ≡ to → q ≡ r → Does p k r j q (Jump to)
-  taken : {c : Condition} {l : ℕ} {s : Operand} {to : ℕ} (x y : ℕ) → r l ≡ Some x → value r s ≡ Some y → Related (relation_of c) x y → j ≡ to → q ≡ r → Does p k r j q (Branch c l s to)
-  missed : {c : Condition} {l : ℕ} {s : Operand} {to : ℕ} (x y : ℕ) → r l ≡ Some x → value r s ≡ Some y → (Related (relation_of c) x y → ⊥) → j ≡ k + 1 → q ≡ r → Does p k r j q (Branch c l s to)
+  mov : {t : ℕ} {s : Operand} (x : ℕ) → value r s ≡ Some x → j ≡ k + 1 → q ≡ put r t x → Does p k r j q (Instruction (Mov t s))
+  alu : {op : Operation} {t : ℕ} {s : Operand} (x y : ℕ) → r t ≡ Some x → value r s ≡ Some y → (Sticks op y → ⊥) → j ≡ k + 1 → q ≡ put r t (result_of op x y) → Does p k r j q (Instruction (Alu op t s))
+  load : {w : Width} {t b : ℕ} {s : Operand} (i x : ℕ) → value r s ≡ Some i → Reaches p b w i → x < 2 ^ bits_of w → j ≡ k + 1 → q ≡ put r t x → Does p k r j q (Instruction (Load w t b s))
+  store : {w : Width} {b : ℕ} {s : Operand} {t : ℕ} (i x : ℕ) → value r s ≡ Some i → r t ≡ Some x → Reaches p b w i → j ≡ k + 1 → q ≡ r → Does p k r j q (Instruction (Store w b s t))
+  jump : {to : ℕ} → j ≡ to → q ≡ r → Does p k r j q (Instruction (Jump to))
+  taken : {c : Condition} {l : ℕ} {s : Operand} {to : ℕ} (x y : ℕ) → r l ≡ Some x → value r s ≡ Some y → Related (relation_of c) x y → j ≡ to → q ≡ r → Does p k r j q (Instruction (Branch c l s to))
+  missed : {c : Condition} {l : ℕ} {s : Operand} {to : ℕ} (x y : ℕ) → r l ≡ Some x → value r s ≡ Some y → (Related (relation_of c) x y → ⊥) → j ≡ k + 1 → q ≡ r → Does p k r j q (Instruction (Branch c l s to))
 
 -- the word that an instruction returns
 pub data Gives (r : Regs) (x : ℕ) : Item → Type 0 where
-  ret : r 0 ≡ Some x → Gives r x Ret
+  ret : r 0 ≡ Some x → Gives r x (Instruction Ret)
 
 -- an instruction can be carried out: it returns, or it steps
 abbrev pub Moves : List Record → ℕ → Regs → Item → Type 0
@@ -67,13 +59,13 @@ register_in (Constant c) = []
 abbrev pub reads : Item → List ℕ
 reads Blank = []
 reads (Buffer size mode) = []
-reads (Mov t s) = register_in s
-reads (Alu op t s) = t ∷ register_in s
-reads (Load w t b s) = register_in s
-reads (Store w b s t) = register_in s ++ t ∷ []
-reads (Jump to) = []
-reads (Branch c l s to) = l ∷ register_in s
-reads Ret = 0 ∷ []
+reads (Instruction (Mov t s)) = register_in s
+reads (Instruction (Alu op t s)) = t ∷ register_in s
+reads (Instruction (Load w t b s)) = register_in s
+reads (Instruction (Store w b s t)) = register_in s ++ t ∷ []
+reads (Instruction (Jump to)) = []
+reads (Instruction (Branch c l s to)) = l ∷ register_in s
+reads (Instruction Ret) = 0 ∷ []
 
 -- the register is one of them
 abbrev pub In : ℕ → List ℕ → Type 0
@@ -83,11 +75,11 @@ In k (x ∷ xs) = (k ≡ x) ⊎ In k xs
 -- an unset register is read, the operation has no result, or the access leaves its buffer or is askew
 pub data Stuck (p : List Record) (r : Regs) : Item → Type 0 where
   unset : {i : Item} (k : ℕ) → In k (reads i) → r k ≡ None → Stuck p r i
-  no_result : {op : Operation} {t : ℕ} {s : Operand} (y : ℕ) → value r s ≡ Some y → Sticks op y → Stuck p r (Alu op t s)
-  load_beyond : {w : Width} {t b : ℕ} {s : Operand} (i : ℕ) → value r s ≡ Some i → size_at p b < i + bytes_of w → Stuck p r (Load w t b s)
-  load_askew : {w : Width} {t b : ℕ} {s : Operand} (i : ℕ) → value r s ≡ Some i → (i % bytes_of w ≢ 0) → Stuck p r (Load w t b s)
-  store_beyond : {w : Width} {b : ℕ} {s : Operand} {t : ℕ} (i : ℕ) → value r s ≡ Some i → size_at p b < i + bytes_of w → Stuck p r (Store w b s t)
-  store_askew : {w : Width} {b : ℕ} {s : Operand} {t : ℕ} (i : ℕ) → value r s ≡ Some i → (i % bytes_of w ≢ 0) → Stuck p r (Store w b s t)
+  no_result : {op : Operation} {t : ℕ} {s : Operand} (y : ℕ) → value r s ≡ Some y → Sticks op y → Stuck p r (Instruction (Alu op t s))
+  load_beyond : {w : Width} {t b : ℕ} {s : Operand} (i : ℕ) → value r s ≡ Some i → size_at p b < i + bytes_of w → Stuck p r (Instruction (Load w t b s))
+  load_askew : {w : Width} {t b : ℕ} {s : Operand} (i : ℕ) → value r s ≡ Some i → (i % bytes_of w ≢ 0) → Stuck p r (Instruction (Load w t b s))
+  store_beyond : {w : Width} {b : ℕ} {s : Operand} {t : ℕ} (i : ℕ) → value r s ≡ Some i → size_at p b < i + bytes_of w → Stuck p r (Instruction (Store w b s t))
+  store_askew : {w : Width} {b : ℕ} {s : Operand} {t : ℕ} (i : ℕ) → value r s ≡ Some i → (i % bytes_of w ≢ 0) → Stuck p r (Instruction (Store w b s t))
 
 -- ── free runs ──
 

@@ -1,16 +1,22 @@
 -- The memory: the buffers in the order of their declaration, without gaps. What a step reads and leaves of it, and runs.
 use Rattle.std.specs.Prelude.{◌≡◌, ℕ, zero, suc, ◌+◌, ◌*◌, ◌/◌, ◌%◌, ◌<◌, ◌≤◌, false, List, [], ◌∷◌, ◌++◌, length, take, drop, Some}
+use Rattle.std.specs.List.{sum_by}
 use Rattle.words.specs.Widths.{bytes_of}
 use Rattle.rule.specs.declared.record.Item.{Item}
-use Rattle.rule.specs.declared.record.Item.TheVariants.{Blank, Buffer, Mov, Alu, Load, Store, Jump, Branch, Ret}
+use Rattle.rule.specs.declared.record.Item.TheVariants.{Blank, Buffer, Instruction}
+use Rattle.rule.specs.declared.instruction.Instruction.TheVariants.{Mov, Alu, Load, Store, Jump, Branch, Ret}
 use Rattle.rule.specs.declared.record.Record.{Record}
+use Rattle.rule.specs.Records.{size_in}
 use Rattle.machine.specs.Machine.{Regs, value, Does, Gives, Inputs, entry, Reached}
 use Rattle.machine.specs.Tables.{buffer_count, code_length, item_at, size_at, writable_at}
 
+-- the sizes of all the buffers among records
+abbrev pub sizes_of : List Record → ℕ
+sizes_of rs = sum_by (λ (r : Record). size_in r.item) rs
+
 -- where buffer b begins, and how long all are
-unfoldable pub start_of : List Record → ℕ → ℕ
-start_of p zero = 0
-start_of p (suc b) = start_of p b + size_at p b
+abbrev pub start_of : List Record → ℕ → ℕ
+start_of p b = sizes_of (take b p)
 
 abbrev pub total_size : List Record → ℕ
 total_size p = start_of p (buffer_count p)
@@ -36,13 +42,13 @@ written m i bs = take i m ++ (bs ++ drop (i + length bs) m)
 -- beside a step from the registers r to q: a load brings the bytes that are there, and a store leaves the low bytes of
 -- its register; no other instruction touches the memory
 abbrev pub Touches : List Record → Regs → List ℕ → Regs → List ℕ → Item → Type 0
-Touches p r m q n (Load w t b s) = ((i : ℕ) → value r s ≡ Some i → q t ≡ Some (word_of (part m (start_of p b + i) (bytes_of w)))) × (n ≡ m)
-Touches p r m q n (Store w b s t) = (i x : ℕ) → value r s ≡ Some i → r t ≡ Some x → n ≡ written m (start_of p b + i) (bytes_in (bytes_of w) x)
-Touches p r m q n (Mov t s) = n ≡ m
-Touches p r m q n (Alu op t s) = n ≡ m
-Touches p r m q n (Jump to) = n ≡ m
-Touches p r m q n (Branch c l s to) = n ≡ m
-Touches p r m q n Ret = n ≡ m
+Touches p r m q n (Instruction (Load w t b s)) = ((i : ℕ) → value r s ≡ Some i → q t ≡ Some (word_of (part m (start_of p b + i) (bytes_of w)))) × (n ≡ m)
+Touches p r m q n (Instruction (Store w b s t)) = (i x : ℕ) → value r s ≡ Some i → r t ≡ Some x → n ≡ written m (start_of p b + i) (bytes_in (bytes_of w) x)
+Touches p r m q n (Instruction (Mov t s)) = n ≡ m
+Touches p r m q n (Instruction (Alu op t s)) = n ≡ m
+Touches p r m q n (Instruction (Jump to)) = n ≡ m
+Touches p r m q n (Instruction (Branch c l s to)) = n ≡ m
+Touches p r m q n (Instruction Ret) = n ≡ m
 Touches p r m q n (Buffer size mode) = n ≡ m
 Touches p r m q n Blank = n ≡ m
 

@@ -1,39 +1,19 @@
-ghost use Rattle.std.specs.Prelude.{◌≡◌, ◌+◌, ◌≤◌, true, false, ◌&&◌, length};
-ghost use Rattle.machine.specs.Tables.{is_buffer, is_blank, buffer_count, filled_count, behind, writable_at, code_length};
-ghost use Rattle.machine.specs.Valid.{operand_ok, jump_ok, item_ok, code_ok, is_ret, size_ok, heads_ok, blanks_ok, counts_ok, rest_ok, layout_of, ValidIn};
+ghost use Rattle.std.specs.Prelude.{◌≡◌, ◌+◌, ◌≤◌, ◌&&◌, length};
+ghost use Rattle.rule.specs.declared.record.Item.TheVariants.{Instruction as Instructs};
+ghost use Rattle.machine.specs.Tables.{buffer_count, code_length, filled_count, writable_at};
+ghost use Rattle.machine.specs.Valid.{operand_ok, jump_ok, item_ok, code_ok, is_ret, size_ok, heads_ok, blanks_ok, counts_ok, rest_ok, table_ok};
 
-use super::layout::Layout;
-use rule::{Item, Mode, Operand, Record};
-
-fn is_buffer(item: Item) -> bool
-    ensures { result ≡ is_buffer item }
-{
-    match item {
-        Item::Buffer { size: _, mode: _ } => true,
-        _ => false,
-    }
-}
-
-fn is_blank(item: Item) -> bool
-    ensures { result ≡ is_blank item }
-{
-    match item {
-        Item::Blank => true,
-        _ => false,
-    }
-}
+use rule::{Instruction, Item, MOST_BUFFERS, MOST_INSTRUCTIONS, Operand, Record, Shape};
 
 /// How many buffers stand in front of a table.
-pub(crate) fn count_buffers(table: &[Record]) -> usize
+fn count_buffers(table: &[Record]) -> usize
     ensures value { result ≡ buffer_count table.now }
     ensures bound { result ≤ length table.now }
 {
-    for (i, record) in table.iter().enumerate() {
-        if !is_buffer(record.item) {
-            return i;
-        }
-    }
-    table.len()
+    table
+        .iter()
+        .take_while(|record| record.item.is_buffer())
+        .count()
 }
 
 /// How many records stand before the first blank.
@@ -41,12 +21,24 @@ fn count_filled(records: &[Record]) -> usize
     ensures value { result ≡ filled_count records.now }
     ensures bound { result ≤ length records.now }
 {
-    for (i, record) in records.iter().enumerate() {
-        if is_blank(record.item) {
-            return i;
-        }
+    records
+        .iter()
+        .take_while(|record| !record.item.is_blank())
+        .count()
+}
+
+/// How many buffers stand in front of a table, and how many records behind them before the first blank.
+pub fn measure(table: &[Record]) -> Shape
+    ensures buffers { result.buffers ≡ buffer_count table.now }
+    ensures instructions { result.instructions ≡ code_length table.now }
+    ensures inside { result.buffers + result.instructions ≤ length table.now }
+{
+    let buffers = count_buffers(table);
+    let instructions = count_filled(&table[buffers..]);
+    Shape {
+        buffers,
+        instructions,
     }
-    records.len()
 }
 
 fn fits_operand(operand: Operand) -> bool
@@ -61,50 +53,32 @@ fn fits_operand(operand: Operand) -> bool
 fn fits_size(item: Item) -> bool
     ensures { result ≡ size_ok item }
 {
-    match item {
-        Item::Buffer { size, mode: _ } => 1 <= size && size <= 1024,
-        _ => false,
-    }
+    let size = item.size();
+    1 <= size && size <= 1024
 }
 
 /// Has each buffer in front of a table a size that it may have?
 fn fit_heads(table: &[Record]) -> bool
     ensures { result ≡ heads_ok table.now }
 {
-    for record in table {
-        if !is_buffer(record.item) {
-            return true;
-        }
-        if !fits_size(record.item) {
-            return false;
-        }
-    }
-    true
+    table
+        .iter()
+        .take_while(|record| record.item.is_buffer())
+        .all(|record| fits_size(record.item))
 }
 
 fn are_blank(records: &[Record]) -> bool
     ensures { result ≡ blanks_ok records.now }
 {
-    for record in records {
-        if !is_blank(record.item) {
-            return false;
-        }
-    }
-    true
+    records.iter().all(|record| record.item.is_blank())
 }
 
 fn is_writable(table: &[Record], buffer: usize) -> bool
     ensures { result ≡ writable_at table.now buffer }
 {
-    if buffer >= table.len() {
-        return false;
-    }
-    match table[buffer].item {
-        Item::Buffer {
-            size: _,
-            mode: Mode::ReadWrite,
-        } => true,
-        _ => false,
+    match table.get(buffer) {
+        Some(record) => record.item.is_writable(),
+        None => false,
     }
 }
 
@@ -114,41 +88,57 @@ fn fits_jump(n: usize, k: usize, to: usize) -> bool
     k < to && to < n
 }
 
-/// Is the item one that a text could give as instruction k of n, after so many buffers?
+/// Is the instruction one that a text could give as instruction k of n, after so many buffers?
+fn fits(
+    table: &[Record],
+    buffers: usize,
+    n: usize,
+    k: usize,
+    instruction: Instruction<usize>,
+) -> bool
+    requires { buffers ≡ buffer_count table.now }
+    ensures { result ≡ item_ok table.now n k (Instructs instruction) }
+{
+    match instruction {
+        Instruction::Mov { target, source } => target < 8 && fits_operand(source),
+        Instruction::Alu {
+            target,
+            operand,
+            ..
+        } => target < 8 && fits_operand(operand),
+        Instruction::Load {
+            target,
+            buffer,
+            index,
+            ..
+        } => target < 8 && (buffer < buffers && fits_operand(index)),
+        Instruction::Store {
+            buffer,
+            index,
+            source,
+            ..
+        } => {
+            (buffer < buffers && is_writable(table, buffer)) && (fits_operand(index) && source < 8)
+        }
+        Instruction::Jump { to } => fits_jump(n, k, to),
+        Instruction::Branch {
+            left,
+            right,
+            to,
+            ..
+        } => left < 8 && (fits_operand(right) && fits_jump(n, k, to)),
+        Instruction::Ret => true,
+    }
+}
+
+/// Is the item an instruction, and one that a text could give there?
 fn fits_item(table: &[Record], buffers: usize, n: usize, k: usize, item: Item) -> bool
     requires { buffers ≡ buffer_count table.now }
     ensures { result ≡ item_ok table.now n k item }
 {
     match item {
-        Item::Mov { target, source } => target < 8 && fits_operand(source),
-        Item::Alu {
-            operation: _,
-            target,
-            operand,
-        } => target < 8 && fits_operand(operand),
-        Item::Load {
-            width: _,
-            target,
-            buffer,
-            index,
-        } => target < 8 && (buffer < buffers && fits_operand(index)),
-        Item::Store {
-            width: _,
-            buffer,
-            index,
-            source,
-        } => {
-            (buffer < buffers && is_writable(table, buffer)) && (fits_operand(index) && source < 8)
-        }
-        Item::Jump { to } => fits_jump(n, k, to),
-        Item::Branch {
-            condition: _,
-            left,
-            right,
-            to,
-        } => left < 8 && (fits_operand(right) && fits_jump(n, k, to)),
-        Item::Ret => true,
-        Item::Buffer { size: _, mode: _ } | Item::Blank => false,
+        Item::Instruction(instruction) => fits(table, buffers, n, k, instruction),
+        Item::Buffer { .. } | Item::Blank => false,
     }
 }
 
@@ -156,8 +146,8 @@ fn is_ret(item: Item) -> bool
     ensures { result ≡ is_ret item }
 {
     match item {
-        Item::Ret => true,
-        _ => false,
+        Item::Instruction(instruction) => instruction.is_ret(),
+        Item::Buffer { .. } | Item::Blank => false,
     }
 }
 
@@ -168,8 +158,8 @@ fn fits_code(table: &[Record], buffers: usize, code: &[Record], n: usize) -> boo
     ensures { result ≡ code_ok table.now code.now n n }
 {
     let mut fine = true;
-    for k in 0..n {
-        fine = fits_item(table, buffers, n, k, code[k].item) & fine;
+    for (k, record) in code[..n].iter().enumerate() {
+        fine = fits_item(table, buffers, n, k, record.item) & fine;
     }
     fine
 }
@@ -177,7 +167,7 @@ fn fits_code(table: &[Record], buffers: usize, code: &[Record], n: usize) -> boo
 fn fit_counts(buffers: usize, instructions: usize) -> bool
     ensures { result ≡ counts_ok buffers instructions }
 {
-    buffers <= 8 && (1 <= instructions && instructions <= 96)
+    buffers <= MOST_BUFFERS && (1 <= instructions && instructions <= MOST_INSTRUCTIONS)
 }
 
 /// Are the buffers' sizes fit, and of the records behind them the first n instructions, the last `ret`, and the rest blank?
@@ -192,37 +182,16 @@ fn fits_rest(table: &[Record], buffers: usize, code: &[Record], n: usize) -> boo
     framed & closed
 }
 
-/// How many buffers stand in front of a table, and how many records behind them before the first blank.
-pub fn measure(table: &[Record]) -> Layout
-    ensures buffers { result.buffers ≡ buffer_count table.now }
-    ensures instructions { result.instructions ≡ code_length table.now }
-    ensures inside { result.buffers + result.instructions ≤ length table.now }
+/// Does the table, of that shape, hold a rule?
+pub(crate) fn is_rule(table: &[Record], shape: Shape) -> bool
+    requires buffers { shape.buffers ≡ buffer_count table.now }
+    requires instructions { shape.instructions ≡ code_length table.now }
+    requires inside { shape.buffers + shape.instructions ≤ length table.now }
+    ensures { result ≡ table_ok table.now }
 {
-    let buffers = count_buffers(table);
-    let instructions = count_filled(&table[buffers..]);
-    Layout {
+    let Shape {
         buffers,
         instructions,
-    }
-}
-
-/// How many buffers and instructions the rule in a table has; nothing where the table holds no rule.
-pub fn layout_of(table: &[Record]) -> Option<Layout>
-    ensures value { result ≡ layout_of table.now }
-    ensures valid { ValidIn result table.now }
-{
-    let Layout {
-        buffers,
-        instructions,
-    } = measure(table);
-    if !fit_counts(buffers, instructions) {
-        return None;
-    }
-    if !fits_rest(table, buffers, &table[buffers..], instructions) {
-        return None;
-    }
-    Some(Layout {
-        buffers,
-        instructions,
-    })
+    } = shape;
+    fit_counts(buffers, instructions) && fits_rest(table, buffers, &table[buffers..], instructions)
 }
