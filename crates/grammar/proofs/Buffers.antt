@@ -14,7 +14,7 @@ use Rattle.rule.specs.declared.record.Mode.{Mode}
 use Rattle.rule.specs.declared.record.Mode.TheVariants.{ReadOnly as ForReading, ReadWrite as ForWriting}
 use Rattle.rule.specs.declared.record.Item.TheVariants.{Buffer as IsBuffer}
 use Rattle.rule.specs.declared.record.Record.{Record}
-use Rattle.rule.specs.Records.{blank}
+use Rattle.rule.specs.Records.{blank, writable_in}
 use Rattle.syntax.specs.declared.fault.LineFault.{LineFault}
 use Rattle.syntax.specs.declared.fault.LineFault.TheVariants.{Field, Heading, Form}
 use Rattle.syntax.specs.declared.statement.Header.{Header}
@@ -24,7 +24,6 @@ use Rattle.syntax.specs.Statements.{and_then, three, buffer_of, is_code, header_
 use Rattle.grammar.specs.declared.fault.ProgramFault.{ProgramFault}
 use Rattle.grammar.specs.Causes.{field_at, line_at, before, after, has_code, SameBuffer, FineBuffer, WrongBuffer, First}
 use Rattle.grammar.specs.Kinds.{buffer_kinds}
-use Rattle.grammar.specs.Links.{is_writable}
 use Rattle.grammar.specs.Names.{Entry, is_known}
 use Rattle.grammar.specs.Reading.{Fields, Heads, first_place, entry, record_at, headed, buffers_from}
 use Rattle.grammar.proofs.Forms.{SaysLine, buffer_says}
@@ -92,7 +91,7 @@ pub record Sofar (room : ℕ) (ds : List Fields) (k : ℕ) (ns : List Entry) (rs
   pub long : length rs ≡ k
   pub fine : (i : ℕ) → i < k → FineBuffer room ds i
   pub names : (i : ℕ) → i < k → get_or ns i no_entry ≡ record { name = (field_at (line_at ds i) 0).bytes; number = i }
-  pub modes : (i : ℕ) → i < k → Decides (is_writable (get_or rs i blank).item) ((field_at (line_at ds i) 2).bytes ≡ codes "rw")
+  pub modes : (i : ℕ) → i < k → Decides (writable_in (get_or rs i blank).item) ((field_at (line_at ds i) 2).bytes ≡ codes "rw")
 
 -- what the lines ls, which come after the first k of ds, say
 abbrev pub SaysBuffers : ℕ → List Fields → List Fields → Result Heads ProgramFault → Type 0
@@ -111,11 +110,11 @@ first-place (p ∷ ps) = refl
 apart : codes "ro" ≡ codes "rw" → ⊥
 apart e = let z : ◌≡◌ {A = ℕ} 111 119 = cc in omega arith
 
-writable_decides : (l : Fields) (at : Place) (s : ℕ) (n : Piece) (m : Mode) → Declared l n m → Decides (is_writable (record_at at (IsBuffer s m)).item) ((field_at l 2).bytes ≡ codes "rw")
+writable_decides : (l : Fields) (at : Place) (s : ℕ) (n : Piece) (m : Mode) → Declared l n m → Decides (writable_in (record_at at (IsBuffer s m)).item) ((field_at l 2).bytes ≡ codes "rw")
 writable_decides l at s n m d =
     ⊎_elim
-    (λ h. (λ e. h.1, λ e. ap (λ x. is_writable (IsBuffer s x)) h.0))
-    (λ h. (λ e. absurd (both_ways _ (ap (λ x. is_writable (IsBuffer s x)) h.0) e), λ e. absurd (apart (sym h.1 ∙ e))))
+    (λ h. (λ e. h.1, λ e. ap (λ x. writable_in (IsBuffer s x)) h.0))
+    (λ h. (λ e. absurd (both_ways _ (ap (λ x. writable_in (IsBuffer s x)) h.0) e), λ e. absurd (apart (sym h.1 ∙ e))))
     d.1
 
 -- one buffer more
@@ -129,8 +128,8 @@ one_more room ds k ns rs n s m so fine d =
       fine = below_more _ _ so.fine fine;
       names = below_more _ _ (λ i l. get_or_append_left ns (entry n (length rs) ∷ []) no_entry i (omega (arith, so.long-names)) ∙ so.names i l) (get_or_push ns (entry n (length rs)) no_entry k so.long-names ∙ named);
       modes = below_more _ _
-          (λ i l. subst (λ (r : Record). Decides (is_writable r.item) ((field_at (line_at ds i) 2).bytes ≡ codes "rw")) (sym (get_or_append_left rs (made ∷ []) blank i (omega (arith, so.long)))) (so.modes i l))
-          (subst (λ (r : Record). Decides (is_writable r.item) ((field_at (line_at ds k) 2).bytes ≡ codes "rw")) (sym (get_or_push rs made blank k so.long)) (writable_decides (line_at ds k) (first_place (line_at ds k)) s n m d));
+          (λ i l. subst (λ (r : Record). Decides (writable_in r.item) ((field_at (line_at ds i) 2).bytes ≡ codes "rw")) (sym (get_or_append_left rs (made ∷ []) blank i (omega (arith, so.long)))) (so.modes i l))
+          (subst (λ (r : Record). Decides (writable_in r.item) ((field_at (line_at ds k) 2).bytes ≡ codes "rw")) (sym (get_or_push rs made blank k so.long)) (writable_decides (line_at ds k) (first_place (line_at ds k)) s n m d));
     }
 
 same_known : (room : ℕ) (ds : List Fields) (k : ℕ) (ns : List Entry) (rs : List Record) (n : Piece) → Sofar room ds k ns rs → n ≡ field_at (line_at ds k) 0 → is_known ns n.bytes ≡ true → SameBuffer ds k

@@ -6,13 +6,14 @@ use Rattle.lexer.specs.declared.fault.FieldFault.TheVariants.{Character, Kind as
 use Rattle.lexer.specs.Lines.{Piece}
 use Rattle.syntax.specs.declared.fault.LineFault.{LineFault}
 use Rattle.syntax.specs.declared.fault.LineFault.TheVariants.{Field, Heading, Form}
-use Rattle.syntax.specs.declared.statement.Instruction.{Instruction}
+use Rattle.rule.specs.declared.instruction.Instruction.{Instruction}
+use Rattle.rule.specs.Instructions.{is_ret}
 use Rattle.syntax.specs.declared.statement.Statement.{Statement}
 use Rattle.syntax.specs.declared.statement.Statement.TheVariants.{Label, Instruction as Instructs}
 use Rattle.grammar.specs.declared.fault.ProgramFault.{ProgramFault}
 use Rattle.grammar.specs.Causes.{field_at, line_at, is_label, label_name, instructions, number_at, SameLabel, FineCode, WrongCode, First}
 use Rattle.grammar.specs.Names.{Entry, is_known}
-use Rattle.grammar.specs.Reading.{Fields, Survey, first_place, entry, is_ret, said, surveyed, survey_from}
+use Rattle.grammar.specs.Reading.{Fields, Survey, first_place, entry, said, surveyed, survey_from}
 use Rattle.grammar.proofs.Buffers.{cons_tail, nil_end}
 use Rattle.grammar.proofs.Lines.{SaysCode, code_says}
 use Rattle.grammar.proofs.Lookups.{no_entry, known_some, unknown-none}

@@ -10,7 +10,7 @@ use Rattle.syntax.specs.declared.fault.LineFault.TheVariants.{Field, Heading, Fo
 use Rattle.syntax.specs.declared.mnemonic.Mnemonic.{Mnemonic}
 use Rattle.syntax.specs.declared.mnemonic.Mnemonic.TheVariants.{Mov, Alu, Load, Store, Jump, Branch, Ret}
 use Rattle.syntax.specs.declared.statement.Header.TheVariants as header
-use Rattle.syntax.specs.declared.statement.Instruction.TheVariants as said
+use Rattle.rule.specs.declared.instruction.Instruction.TheVariants as said
 use Rattle.syntax.specs.Statements.{and_then, none, one, two, three, mov_of, alu_of, load_of, store_of, jump_of, branch_of, buffer_of, instruction_of}
 use Rattle.grammar.specs.Kinds.{Kind, name, size, mode, register, value, Fits, AllFit, Misfit, buffer_kinds, kinds_of}
 use Rattle.grammar.proofs.Fits.{Reads, name-reads, size-reads, mode-reads, register-reads, value-reads}

@@ -11,7 +11,7 @@ use Rattle.lexer.specs.Lines.{Piece}
 use Rattle.syntax.specs.declared.fault.LineFault.{LineFault}
 use Rattle.syntax.specs.declared.fault.LineFault.TheVariants.{Field, Heading, Form}
 use Rattle.syntax.specs.declared.mnemonic.Mnemonic.{Mnemonic}
-use Rattle.syntax.specs.declared.statement.Instruction.{Instruction}
+use Rattle.rule.specs.declared.instruction.Instruction.{Instruction}
 use Rattle.syntax.specs.declared.statement.Statement.{Statement}
 use Rattle.syntax.specs.declared.statement.Statement.TheVariants.{Label, Instruction as Instructs}
 use Rattle.syntax.specs.Statements as syntax

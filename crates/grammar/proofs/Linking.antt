@@ -4,19 +4,19 @@ use Rattle.std.proofs.lemmas.List.{length_push}
 use Rattle.std.proofs.lemmas.Bool.{cond_both, both_ways, and_parts, and_from, ltb-true, lt-ltb}
 use Rattle.lexer.specs.declared.fault.FieldFault.TheVariants.{Character, Kind as WrongKind}
 use Rattle.lexer.specs.Lines.{Piece}
-use Rattle.rule.specs.declared.record.Item.{Item}
+use Rattle.rule.specs.declared.record.Item.TheVariants.{Instruction as IsInstruction}
 use Rattle.rule.specs.declared.record.Record.{Record}
-use Rattle.rule.specs.Records.{blank}
+use Rattle.rule.specs.Records.{blank, writable_in}
 use Rattle.syntax.specs.declared.fault.LineFault.{LineFault}
 use Rattle.syntax.specs.declared.fault.LineFault.TheVariants.{Field, Heading, Form}
-use Rattle.syntax.specs.declared.statement.Instruction.{Instruction}
-use Rattle.syntax.specs.declared.statement.Instruction.TheVariants.{Mov, Alu, Load, Store, Jump, Branch, Ret}
+use Rattle.rule.specs.declared.instruction.Instruction.{Instruction}
+use Rattle.rule.specs.declared.instruction.Instruction.TheVariants.{Mov, Alu, Load, Store, Jump, Branch, Ret}
 use Rattle.syntax.specs.declared.statement.Statement.{Statement}
 use Rattle.syntax.specs.declared.statement.Statement.TheVariants.{Label, Instruction as Instructs}
 use Rattle.grammar.specs.declared.fault.ProgramFault.{ProgramFault}
 use Rattle.grammar.specs.declared.fault.ProgramFault.TheVariants.{Line, Backward, ReadOnly}
 use Rattle.grammar.specs.Causes.{field_at, line_at, is_label, instructions, number_at, source_of, sink_of, target_of, mnemonic_of, Declares, Stands, FineNames, WrongNames, First}
-use Rattle.grammar.specs.Links.{Scope, Found, is_writable, loadable, storable, reachable, with, item_of}
+use Rattle.grammar.specs.Links.{Scope, Found, loadable, storable, reachable, with, resolved}
 use Rattle.grammar.specs.Names.{Entry, number_of}
 use Rattle.grammar.specs.Reading.{Fields, first_place, record_at, said, and_then, linked, link_from}
 use Rattle.grammar.proofs.Blames.{code-blamed, one_label, mode-fits}
@@ -77,9 +77,9 @@ module _ (ds cs : List Fields) (s : Scope) (sc : Scoped ds cs s) where
     pub stores : sink_of (mnemonic_of (line_at cs k)) (line_at cs k) ≡ sink_name i
     pub jumps : target_of (mnemonic_of (line_at cs k)) (line_at cs k) ≡ target_name i
 
-  abbrev SaysItem : ℕ → Result Item ProgramFault → Type 0
-  SaysItem k (Ok x) = FineNames ds cs k
-  SaysItem k (Err f) = WrongNames ds cs k f
+  abbrev SaysNames : {X : Type 0} → ℕ → Result X ProgramFault → Type 0
+  SaysNames k (Ok x) = FineNames ds cs k
+  SaysNames k (Err f) = WrongNames ds cs k f
 
   no_name : (n : Piece) (o : Option Piece) → o ≡ None → o ≡ Some n → ⊥
   no_name n o a b = let z : ◌≡◌ {A = ℕ} 0 1 = cc in omega arith
@@ -95,7 +95,7 @@ module _ (ds cs : List Fields) (s : Scope) (sc : Scoped ds cs s) where
     jumps = λ n h. absurd (no_name n _ (ns.jumps ∙ c) h.1);
   }
 
-  load_says : (k : ℕ) (i : Instruction Piece) (n : Piece) (f : ℕ → Item) (o : Option ℕ) → Names k i → source_name i ≡ Some n → sink_name i ≡ None → target_name i ≡ None → number_of s.buffers n.bytes ≡ o → SaysItem k (with (loadable o n.place) f)
+  load_says : (k : ℕ) (i : Instruction Piece) (n : Piece) (f : ℕ → Instruction ℕ) (o : Option ℕ) → Names k i → source_name i ≡ Some n → sink_name i ≡ None → target_name i ≡ None → number_of s.buffers n.bytes ≡ o → SaysNames k (with (loadable o n.place) f)
   load_says k i n f None ns a b c e = inl (n, inl (ns.plain, ns.loads ∙ a), buffer-none n e, refl)
   load_says k i n f (Some x) ns a b c e = record {
     loads = λ m h. (x, subst (Declares ds x) (same_name n m _ (ns.loads ∙ a) h.1) (buffer-some n x e));
@@ -106,12 +106,12 @@ module _ (ds cs : List Fields) (s : Scope) (sc : Scoped ds cs s) where
   not_rw : (x : ℕ) → x < length ds → ((field_at (line_at ds x) 2).bytes ≡ codes "rw" → ⊥) → (field_at (line_at ds x) 2).bytes ≡ codes "ro"
   not_rw x l never = ⊎_elim (λ e. e) (λ e. absurd (never e)) (mode-fits (line_at ds x) (sc.buffers.fine x l).form)
 
-  store_says : (k : ℕ) (i : Instruction Piece) (n : Piece) (f : ℕ → Item) (o : Option ℕ) → Names k i → source_name i ≡ None → sink_name i ≡ Some n → target_name i ≡ None → number_of s.buffers n.bytes ≡ o → SaysItem k (with (storable s.heads o n.place) f)
+  store_says : (k : ℕ) (i : Instruction Piece) (n : Piece) (f : ℕ → Instruction ℕ) (o : Option ℕ) → Names k i → source_name i ≡ None → sink_name i ≡ Some n → target_name i ≡ None → number_of s.buffers n.bytes ≡ o → SaysNames k (with (storable s.heads o n.place) f)
   store_says k i n f None ns a b c e = inl (n, inr (ns.plain, ns.stores ∙ b), buffer-none n e, refl)
   store_says k i n f (Some x) ns a b c e =
       let d = buffer-some n x e in
       let rw-decides = sc.buffers.modes x d.0 in
-      cond_both (is_writable (get_or s.heads x blank).item) (Ok x) (Err (ReadOnly n.place)) (λ (r : Found). SaysItem k (with r f))
+      cond_both (writable_in (get_or s.heads x blank).item) (Ok x) (Err (ReadOnly n.place)) (λ (r : Found). SaysNames k (with r f))
       (λ h. record {
         loads = λ m g. absurd (no_name m _ (ns.loads ∙ a) g.1);
         stores = λ m g. (x, subst (Declares ds x) (same_name n m _ (ns.stores ∙ b) g.1) d, rw-decides.0 h);
@@ -119,12 +119,12 @@ module _ (ds cs : List Fields) (s : Scope) (sc : Scoped ds cs s) where
       })
       (λ h. (n, (ns.plain, ns.stores ∙ b), (x, d, not_rw x d.0 (λ w. both_ways _ h (rw-decides.1 w))), refl))
 
-  jump_says : (k : ℕ) (i : Instruction Piece) (n : Piece) (f : ℕ → Item) (o : Option ℕ) → Names k i → source_name i ≡ None → sink_name i ≡ None → target_name i ≡ Some n → number_of s.labels n.bytes ≡ o → SaysItem k (with (reachable (number_at cs k) s.count o n.place) f)
+  jump_says : (k : ℕ) (i : Instruction Piece) (n : Piece) (f : ℕ → Instruction ℕ) (o : Option ℕ) → Names k i → source_name i ≡ None → sink_name i ≡ None → target_name i ≡ Some n → number_of s.labels n.bytes ≡ o → SaysNames k (with (reachable (number_at cs k) s.count o n.place) f)
   jump_says k i n f None ns a b c e = inr (n, (ns.plain, ns.jumps ∙ c), label-none n e, refl)
   jump_says k i n f (Some x) ns a b c e =
       let d = label-some n x e in
       let test = ltb (number_at cs k) x && ltb x s.count in
-      cond_both test (Ok x) (Err (Backward n.place)) (λ (r : Found). SaysItem k (with r f))
+      cond_both test (Ok x) (Err (Backward n.place)) (λ (r : Found). SaysNames k (with r f))
       (λ h. let r = and_parts (ltb (number_at cs k) x) (ltb x s.count) h in record {
         loads = λ m g. absurd (no_name m _ (ns.loads ∙ a) g.1);
         stores = λ m g. absurd (no_name m _ (ns.stores ∙ b) g.1);
@@ -141,14 +141,14 @@ module _ (ds cs : List Fields) (s : Scope) (sc : Scoped ds cs s) where
         refl,
       ))
 
-  item_says : (k : ℕ) (i : Instruction Piece) → Names k i → SaysItem k (item_of s (number_at cs k) i)
-  item_says k (Mov t o) ns = nameless k (Mov t o) ns refl refl refl
-  item_says k (Alu op t o) ns = nameless k (Alu op t o) ns refl refl refl
-  item_says k (Load w t n i) ns = load_says k (Load w t n i) n _ (number_of s.buffers n.bytes) ns refl refl refl refl
-  item_says k (Store w n i r) ns = store_says k (Store w n i r) n _ (number_of s.buffers n.bytes) ns refl refl refl refl
-  item_says k (Jump n) ns = jump_says k (Jump n) n _ (number_of s.labels n.bytes) ns refl refl refl refl
-  item_says k (Branch c l r n) ns = jump_says k (Branch c l r n) n _ (number_of s.labels n.bytes) ns refl refl refl refl
-  item_says k Ret ns = nameless k Ret ns refl refl refl
+  instruction_says : (k : ℕ) (i : Instruction Piece) → Names k i → SaysNames k (resolved s (number_at cs k) i)
+  instruction_says k (Mov t o) ns = nameless k (Mov t o) ns refl refl refl
+  instruction_says k (Alu op t o) ns = nameless k (Alu op t o) ns refl refl refl
+  instruction_says k (Load w t n i) ns = load_says k (Load w t n i) n _ (number_of s.buffers n.bytes) ns refl refl refl refl
+  instruction_says k (Store w n i r) ns = store_says k (Store w n i r) n _ (number_of s.buffers n.bytes) ns refl refl refl refl
+  instruction_says k (Jump n) ns = jump_says k (Jump n) n _ (number_of s.labels n.bytes) ns refl refl refl refl
+  instruction_says k (Branch c l r n) ns = jump_says k (Branch c l r n) n _ (number_of s.labels n.bytes) ns refl refl refl refl
+  instruction_says k Ret ns = nameless k Ret ns refl refl refl
 
   -- ── line by line ──
 
@@ -174,9 +174,9 @@ module _ (ds cs : List Fields) (s : Scope) (sc : Scoped ds cs s) where
         jumps = ap (λ m. target_of m (line_at cs k)) o.1 ∙ sym o.2.target;
       }
 
-  item_step : (k : ℕ) (rs : List Record) (next : List Record → Result (List Record) ProgramFault) → k < length cs → ((i : ℕ) → i < k → FineNames ds cs i) → (FineNames ds cs k → (r : Record) → SaysLinks (next (rs ++ r ∷ []))) → (x : Result Item ProgramFault) → SaysItem k x → SaysLinks (and_then x (λ item. next (rs ++ record_at (first_place (line_at cs k)) item ∷ [])))
-  item_step k rs next l fine go (Ok x) h = go h _
-  item_step k rs next l fine go (Err f) h = record { line = k; within = l; before_it = fine; there = h }
+  instruction_step : (k : ℕ) (rs : List Record) (next : List Record → Result (List Record) ProgramFault) → k < length cs → ((i : ℕ) → i < k → FineNames ds cs i) → (FineNames ds cs k → (r : Record) → SaysLinks (next (rs ++ r ∷ []))) → (x : Result (Instruction ℕ) ProgramFault) → SaysNames k x → SaysLinks (and_then x (λ j. next (rs ++ record_at (first_place (line_at cs k)) (IsInstruction j) ∷ [])))
+  instruction_step k rs next l fine go (Ok x) h = go h _
+  instruction_step k rs next l fine go (Err f) h = record { line = k; within = l; before_it = fine; there = h }
 
   line_says : (k : ℕ) (rs : List Record) (next : List Record → Result (List Record) ProgramFault) → k < length cs → length rs ≡ number_at cs k → ((i : ℕ) → i < k → FineNames ds cs i) → ((rs' : List Record) → length rs' ≡ number_at cs (k + 1) → FineNames ds cs k → SaysLinks (next rs')) → (r : Result (Statement Piece) LineFault) → said (line_at cs k) ≡ r → SaysCode (line_at cs k) r → SaysLinks (linked s rs (first_place (line_at cs k)) next r)
   line_says k rs next l long fine go (Err (Form p)) e v = absurd (code-blamed sc.code-room cs k (Line (Form p)) (inr (v.0, (v.1, v.2))) (sc.code.fine k l))
@@ -185,10 +185,10 @@ module _ (ds cs : List Fields) (s : Scope) (sc : Scoped ds cs s) where
   line_says k rs next l long fine go (Err (Heading p)) e v = absurd v
   line_says k rs next l long fine go (Ok (Label p)) e v = go rs (long ∙ sym (number-label cs k l v.0)) (label-fine k v.0)
   line_says k rs next l long fine go (Ok (Instructs i)) e v =
-      item_step k rs next l fine
+      instruction_step k rs next l fine
       (λ h r. go (rs ++ r ∷ []) (length_push rs r ∙ ap (λ n. n + 1) long ∙ sym (number-instruction cs k l v.0)) h)
-      (item_of s (length rs) i)
-      (subst (λ n. SaysItem k (item_of s n i)) (sym long) (item_says k i (own-names k i v.0 e)))
+      (resolved s (length rs) i)
+      (subst (λ n. SaysNames k (resolved s n i)) (sym long) (instruction_says k i (own-names k i v.0 e)))
 
   pub link_says : (ls : List Fields) (k : ℕ) (rs : List Record) → k ≤ length cs → ls ≡ drop k cs → length rs ≡ number_at cs k → ((i : ℕ) → i < k → FineNames ds cs i) → SaysLinks (link_from s rs ls)
   link_says [] k rs le e long fine = λ i l. fine i (omega (arith, nil_end cs k e))

@@ -9,8 +9,9 @@ use Rattle.syntax.specs.declared.fault.LineFault.{LineFault}
 use Rattle.syntax.specs.declared.fault.LineFault.TheVariants.{Form}
 use Rattle.syntax.specs.declared.mnemonic.Mnemonic.{Mnemonic}
 use Rattle.syntax.specs.declared.mnemonic.Mnemonic.TheVariants as word
-use Rattle.syntax.specs.declared.statement.Instruction.{Instruction}
-use Rattle.syntax.specs.declared.statement.Instruction.TheVariants.{Mov, Alu, Load, Store, Jump, Branch, Ret}
+use Rattle.rule.specs.declared.instruction.Instruction.{Instruction}
+use Rattle.rule.specs.Instructions.{is_ret}
+use Rattle.rule.specs.declared.instruction.Instruction.TheVariants.{Mov, Alu, Load, Store, Jump, Branch, Ret}
 use Rattle.syntax.specs.declared.statement.Statement.{Statement}
 use Rattle.syntax.specs.declared.statement.Statement.TheVariants.{Label, Instruction as Instructs}
 use Rattle.syntax.specs.Operands.{register_of, operand_of}
@@ -18,7 +19,7 @@ use Rattle.syntax.specs.Statements as syntax
 use Rattle.syntax.specs.Statements.{and_then, none, one, two, three, mov_of, alu_of, load_of, store_of, jump_of, branch_of, instruction_of, known_of, labels, instructs}
 use Rattle.syntax.specs.Words.{word_of, mnemonic_in}
 use Rattle.grammar.specs.Causes.{field_at, source_of, sink_of, target_of, mnemonic_of}
-use Rattle.grammar.specs.Reading.{Fields, said, is_ret}
+use Rattle.grammar.specs.Reading.{Fields, said}
 use Rattle.grammar.proofs.Buffers.{then_ok, name-own}
 use Rattle.grammar.proofs.Spellings.{word-found, found_word, same_mnemonic}
 

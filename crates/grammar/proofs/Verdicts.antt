@@ -10,7 +10,7 @@ use Rattle.syntax.specs.declared.fault.LineFault.TheVariants.{Field, Heading, Fo
 use Rattle.syntax.specs.Statements.{is_code, is_heading}
 use Rattle.grammar.specs.declared.fault.ProgramFault.{ProgramFault}
 use Rattle.grammar.specs.declared.fault.ProgramFault.TheVariants.{Line, TooLong, Repeated, Full, Unknown, Backward, ReadOnly, Unclosed}
-use Rattle.grammar.specs.declared.shape.Shape.{Shape}
+use Rattle.rule.specs.declared.shape.Shape.{Shape}
 use Rattle.grammar.specs.Causes.{Long, NoneForeign, IsHeading, heading_place, line_at, after, has_code, is_label, instructions, number_at, FineNames, last_line, Open, no_code, no_instruction, no_ret, label_last, body, buffer_lines, code_lines, buffer_room, code_room, Headed, Named, Unblamed, AtBuffer, AtCode, AtNames, Refused, Judged}
 use Rattle.grammar.specs.Reading.{Fields, Heads, Survey, Program, and_then, link_from, scope_of, closing, code_of, coded, body_of, program_of, clean, reading, shape_of}
 use Rattle.grammar.proofs.Blames.{buffer-blamed, code-blamed, names-blamed}

@@ -1,14 +1,11 @@
 -- An instruction with its names resolved.
-use Rattle.std.specs.Prelude.{ℕ, Bool, true, false, cond, ◌&&◌, List, Some, None, Ok, Err, Option, Result, nat_lt, slice_index_or}
+use Rattle.std.specs.Prelude.{ℕ, cond, ◌&&◌, List, Some, None, Ok, Err, Option, Result, nat_lt, slice_index_or}
 use Rattle.lexer.specs.declared.place.Place.{Place}
 use Rattle.lexer.specs.Lines.{Piece}
-use Rattle.rule.specs.declared.record.Mode.TheVariants.{ReadOnly as ForReading, ReadWrite as ForWriting}
-use Rattle.rule.specs.declared.record.Item.{Item}
-use Rattle.rule.specs.declared.record.Item.TheVariants as item
+use Rattle.rule.specs.declared.instruction.Instruction.{Instruction}
+use Rattle.rule.specs.declared.instruction.Instruction.TheVariants.{Mov, Alu, Load, Store, Jump, Branch, Ret}
 use Rattle.rule.specs.declared.record.Record.{Record}
-use Rattle.rule.specs.Records.{blank}
-use Rattle.syntax.specs.declared.statement.Instruction.{Instruction}
-use Rattle.syntax.specs.declared.statement.Instruction.TheVariants.{Mov, Alu, Load, Store, Jump, Branch, Ret}
+use Rattle.rule.specs.Records.{blank, writable_in}
 use Rattle.grammar.specs.declared.fault.ProgramFault.{ProgramFault}
 use Rattle.grammar.specs.declared.fault.ProgramFault.TheVariants.{Unknown, Backward, ReadOnly}
 use Rattle.grammar.specs.Names.{Entry, number_of}
@@ -19,19 +16,6 @@ pub record Scope : Type 0 where
   pub heads : List Record
   pub labels : List Entry
   pub count : ℕ
-
--- may a rule store into the buffer?
-abbrev pub is_writable : Item → Bool
-is_writable (item.Buffer size ForWriting) = true
-is_writable (item.Buffer size ForReading) = false
-is_writable item.Blank = false
-is_writable (item.Mov t s) = false
-is_writable (item.Alu op t o) = false
-is_writable (item.Load w t b i) = false
-is_writable (item.Store w b i s) = false
-is_writable (item.Jump to) = false
-is_writable (item.Branch c l r to) = false
-is_writable item.Ret = false
 
 abbrev pub Found : Type 0
 Found = Result ℕ ProgramFault
@@ -44,7 +28,7 @@ loadable (Some b) p = Ok b
 -- a buffer to store into
 abbrev pub storable : List Record → Option ℕ → Place → Found
 storable heads None p = Err (Unknown p)
-storable heads (Some b) p = cond (is_writable (slice_index_or heads b blank).item) (Ok b) (Err (ReadOnly p))
+storable heads (Some b) p = cond (writable_in (slice_index_or heads b blank).item) (Ok b) (Err (ReadOnly p))
 
 -- a label to jump to from instruction k of so many: one that stands before a later instruction
 abbrev pub reachable : ℕ → ℕ → Option ℕ → Place → Found
@@ -60,16 +44,16 @@ sink s n = storable s.heads (number_of s.buffers n.bytes) n.place
 abbrev pub target : Scope → ℕ → Piece → Found
 target s k n = reachable k s.count (number_of s.labels n.bytes) n.place
 
-abbrev pub with : Found → (ℕ → Item) → Result Item ProgramFault
+abbrev pub with : {X : Type 0} → Found → (ℕ → X) → Result X ProgramFault
 with (Ok n) f = Ok (f n)
 with (Err e) f = Err e
 
--- instruction k
-abbrev pub item_of : Scope → ℕ → Instruction Piece → Result Item ProgramFault
-item_of s k (Mov t o) = Ok (item.Mov t o)
-item_of s k (Alu op t o) = Ok (item.Alu op t o)
-item_of s k (Load w t n i) = with (source s n) (λ b. item.Load w t b i)
-item_of s k (Store w n i r) = with (sink s n) (λ b. item.Store w b i r)
-item_of s k (Jump n) = with (target s k n) item.Jump
-item_of s k (Branch c l r n) = with (target s k n) (item.Branch c l r)
-item_of s k Ret = Ok item.Ret
+-- instruction k, with its names as the numbers that they stand for
+abbrev pub resolved : Scope → ℕ → Instruction Piece → Result (Instruction ℕ) ProgramFault
+resolved s k (Mov t o) = Ok (Mov t o)
+resolved s k (Alu op t o) = Ok (Alu op t o)
+resolved s k (Load w t n i) = with (source s n) (λ b. Load w t b i)
+resolved s k (Store w n i r) = with (sink s n) (λ b. Store w b i r)
+resolved s k (Jump n) = with (target s k n) Jump
+resolved s k (Branch c l r n) = with (target s k n) (Branch c l r)
+resolved s k Ret = Ok Ret

@@ -1,27 +1,26 @@
 -- What a text is read as.
-use Rattle.std.specs.Prelude.{ℕ, ◌+◌, ◌-◌, min, Bool, true, false, cond, List, [], ◌∷◌, ◌++◌, length, replicate, Some, None, Ok, Err, Option, Result, nat_le, nat_lt}
+use Rattle.std.specs.Prelude.{ℕ, ◌+◌, ◌-◌, min, Bool, false, cond, List, [], ◌∷◌, ◌++◌, length, replicate, Some, None, Ok, Err, Option, Result, nat_le, nat_lt}
 use Rattle.lexer.specs.declared.place.Place.{Place}
 use Rattle.lexer.specs.declared.fault.FieldFault.TheVariants.{Character}
 use Rattle.lexer.specs.Foreign.{foreign}
 use Rattle.lexer.specs.Lines.{Piece, filled_lines}
 use Rattle.rule.specs.declared.record.Item.{Item}
-use Rattle.rule.specs.declared.record.Item.TheVariants.{Buffer as IsBuffer}
+use Rattle.rule.specs.declared.record.Item.TheVariants.{Buffer as IsBuffer, Instruction as IsInstruction}
 use Rattle.rule.specs.declared.record.Record.{Record}
+use Rattle.rule.specs.declared.shape.Shape.{Shape}
+use Rattle.rule.specs.Instructions.{is_ret}
 use Rattle.rule.specs.Records.{blank}
 use Rattle.syntax.specs.declared.fault.LineFault.{LineFault}
 use Rattle.syntax.specs.declared.fault.LineFault.TheVariants.{Field, Heading, Form}
 use Rattle.syntax.specs.declared.statement.Header.{Header}
 use Rattle.syntax.specs.declared.statement.Header.TheVariants.{Code, Buffer}
-use Rattle.syntax.specs.declared.statement.Instruction.{Instruction}
-use Rattle.syntax.specs.declared.statement.Instruction.TheVariants.{Mov, Alu, Load, Store, Jump, Branch, Ret}
 use Rattle.syntax.specs.declared.statement.Statement.{Statement}
 use Rattle.syntax.specs.declared.statement.Statement.TheVariants.{Label, Instruction as Instructs}
 use Rattle.syntax.specs.Statements.{is_heading, header_of, statement_of}
 use Rattle.grammar.specs.declared.fault.ProgramFault.{ProgramFault}
 use Rattle.grammar.specs.declared.fault.ProgramFault.TheVariants.{Line, TooLong, Repeated, Full, Unclosed}
-use Rattle.grammar.specs.declared.shape.Shape.{Shape}
 use Rattle.grammar.specs.Names.{Entry, is_known}
-use Rattle.grammar.specs.Links.{Scope, item_of}
+use Rattle.grammar.specs.Links.{Scope, resolved}
 
 -- a line that has fields, as its fields
 abbrev pub Fields : Type 0
@@ -71,15 +70,6 @@ pub record Survey : Type 0 where
   pub count : ℕ
   pub closed : Bool
 
-abbrev pub is_ret : {N : Type 0} → Instruction N → Bool
-is_ret Ret = true
-is_ret (Mov t s) = false
-is_ret (Alu op t o) = false
-is_ret (Load w t n i) = false
-is_ret (Store w n i s) = false
-is_ret (Jump n) = false
-is_ret (Branch c l r n) = false
-
 abbrev pub said : Fields → Result (Statement Piece) LineFault
 said [] = Err (Form (first_place []))
 said (p ∷ ps) = statement_of p ps
@@ -99,7 +89,7 @@ survey_from room ls k closed (l ∷ rest) = surveyed room ls k (first_place l) (
 abbrev pub linked : Scope → List Record → Place → (List Record → Result (List Record) ProgramFault) → Result (Statement Piece) LineFault → Result (List Record) ProgramFault
 linked s rs p next (Err e) = Err (Line e)
 linked s rs p next (Ok (Label n)) = next rs
-linked s rs p next (Ok (Instructs i)) = and_then (item_of s (length rs) i) (λ item. next (rs ++ record_at p item ∷ []))
+linked s rs p next (Ok (Instructs i)) = and_then (resolved s (length rs) i) (λ j. next (rs ++ record_at p (IsInstruction j) ∷ []))
 
 abbrev pub link_from : Scope → List Record → List Fields → Result (List Record) ProgramFault
 link_from s rs [] = Ok rs

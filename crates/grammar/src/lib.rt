@@ -5,8 +5,6 @@
 
 mod fault;
 mod refusal;
-mod shape;
 
 pub use fault::ProgramFault;
 pub use refusal::Refusal;
-pub use shape::Shape;

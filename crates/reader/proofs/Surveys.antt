@@ -7,11 +7,12 @@ use Rattle.syntax.specs.declared.fault.LineFault.{LineFault}
 use Rattle.syntax.specs.declared.statement.Statement.{Statement}
 use Rattle.syntax.specs.declared.statement.Statement.TheVariants.{Label, Instruction as Instructs}
 use Rattle.grammar.specs.declared.fault.ProgramFault.{ProgramFault}
+use Rattle.rule.specs.Instructions.{is_ret}
 use Rattle.reader.specs.declared.mark.Mark.{Mark}
 use Rattle.grammar.specs.Names.{Entry, is_known}
 use Rattle.reader.specs.Marked.{entry_of, entries_of}
 use Rattle.reader.specs.Passes.{instructing, instructions_in}
-use Rattle.grammar.specs.Reading.{Fields, Survey, first_place, entry, is_ret, said, surveyed, survey_from}
+use Rattle.grammar.specs.Reading.{Fields, Survey, first_place, entry, said, surveyed, survey_from}
 use Rattle.reader.proofs.Marks.{entries-more}
 
 pub label-step : (t : List ℕ) (ms : List Mark) (k room n : ℕ) (closed : Bool) (m : Mark) (lines rest : List Fields) (l : Fields) (name : Piece) → k < length ms → lines ≡ l ∷ rest → Ok (Label name) ≡ said l → is_known (entries_of t (take k ms)) name.bytes ≡ false → entry_of t m ≡ entry name n → survey_from room (entries_of t (take (k + 1) (set ms k m))) n false rest ≡ survey_from room (entries_of t (take k ms)) n closed lines

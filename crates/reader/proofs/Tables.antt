@@ -5,7 +5,7 @@ use Rattle.std.proofs.lemmas.List.{length-take-le, drop-replicate, drop-drop, ap
 use Rattle.rule.specs.declared.record.Record.{Record}
 use Rattle.rule.specs.Records.{blank}
 use Rattle.grammar.specs.declared.fault.ProgramFault.{ProgramFault}
-use Rattle.grammar.specs.declared.shape.Shape.{Shape}
+use Rattle.rule.specs.declared.shape.Shape.{Shape}
 use Rattle.grammar.specs.Reading.{Program, table_of, shape_of}
 
 pub read_ok : (room : ℕ) (s : Shape) (was after : List Record) (v : ℕ → Result Program ProgramFault) → was ≡ replicate room blank → length after ≡ length was → s.buffers + s.instructions ≤ length was → v (length was) ≡ Ok (record { buffers = take s.buffers after; instructions = take s.instructions (drop s.buffers after) }) → drop (s.buffers + s.instructions) after ≡ drop (s.buffers + s.instructions) was → (Ok s ≡ shape_of (v room)) × (after ≡ table_of room (v room))

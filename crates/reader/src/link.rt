@@ -7,7 +7,7 @@ ghost use Rattle.reader.specs.Scopes.{scope_in, Inside};
 use super::scope::Scope;
 use grammar::ProgramFault;
 use lexer::Lexer;
-use rule::Record;
+use rule::{Item, Record};
 use syntax::{Statement, parse_statement};
 
 /// Writes the instructions of the lines that are left to the front of the slots, with their names resolved.
@@ -30,7 +30,7 @@ pub(crate) fn link_code(
         if let Statement::Instruction(instruction) = parse_statement(first, rest)? {
             slots[count] = Record {
                 line: first.place.line,
-                item: scope.resolve(count, instruction)?,
+                item: Item::Instruction(scope.resolve(count, instruction)?),
             };
             count += 1;
         }

@@ -1,15 +1,13 @@
-ghost use Rattle.std.specs.Prelude.{◌≡◌, slice_index_or};
+ghost use Rattle.std.specs.Prelude.{◌≡◌};
 ghost use Rattle.lexer.specs.Fields.{spelled};
 ghost use Rattle.syntax.specs.Spelled.{instruction as spelled_instruction};
-ghost use Rattle.grammar.specs.Links.{source as source_of, sink as sink_of, target as target_of, item_of, is_writable};
-ghost use Rattle.rule.specs.Records.{blank};
+ghost use Rattle.grammar.specs.Links.{source as source_of, sink as sink_of, target as target_of, resolved};
 ghost use Rattle.reader.specs.Scopes.{scope_in, Inside};
 
 use super::mark::{Mark, lookup};
 use grammar::ProgramFault;
 use lexer::Name;
-use rule::{Item, Mode, Record};
-use syntax::Instruction;
+use rule::{Instruction, Record};
 
 /// What the names of a text stand for: its buffers by name and as records, its labels, and how many instructions it has.
 #[derive(Clone, Copy)]
@@ -19,21 +17,6 @@ pub(crate) struct Scope<'a, 'b> {
     pub(crate) heads: &'a [Record],
     pub(crate) labels: &'b [Mark],
     pub(crate) count: usize,
-}
-
-fn is_writable(heads: &[Record], buffer: usize) -> bool
-    ensures { result ≡ is_writable (slice_index_or heads.now buffer blank).item }
-{
-    if buffer >= heads.len() {
-        return false;
-    }
-    match heads[buffer].item {
-        Item::Buffer {
-            size: _,
-            mode: Mode::ReadWrite,
-        } => true,
-        _ => false,
-    }
 }
 
 impl Scope<'_, '_> {
@@ -54,7 +37,11 @@ impl Scope<'_, '_> {
         ensures { result ≡ sink_of (scope_in self.now) (spelled name.entry) }
     {
         match lookup(self.text, self.names, name.text) {
-            Some(buffer) if is_writable(self.heads, buffer) => Ok(buffer),
+            Some(buffer)
+                if self
+                    .heads
+                    .get(buffer)
+                    .is_some_and(|record| record.item.is_writable()) => Ok(buffer),
             Some(_) => Err(ProgramFault::ReadOnly(name.place)),
             None => Err(ProgramFault::Unknown(name.place)),
         }
@@ -72,22 +59,22 @@ impl Scope<'_, '_> {
         }
     }
 
-    /// Instruction k with its names resolved.
+    /// Instruction k, with its names as the numbers that they stand for.
     pub(crate) fn resolve(
         &self,
         k: usize,
         instruction: Instruction<Name>,
-    ) -> Result<Item, ProgramFault>
+    ) -> Result<Instruction<usize>, ProgramFault>
         requires { Inside self.now }
-        ensures { result ≡ item_of (scope_in self.now) k (spelled_instruction instruction.entry) }
+        ensures { result ≡ resolved (scope_in self.now) k (spelled_instruction instruction.entry) }
     {
         match instruction {
-            Instruction::Mov { target, source } => Ok(Item::Mov { target, source }),
+            Instruction::Mov { target, source } => Ok(Instruction::Mov { target, source }),
             Instruction::Alu {
                 operation,
                 target,
                 operand,
-            } => Ok(Item::Alu {
+            } => Ok(Instruction::Alu {
                 operation,
                 target,
                 operand,
@@ -99,7 +86,7 @@ impl Scope<'_, '_> {
                 index,
             } => {
                 let buffer = self.source(buffer)?;
-                Ok(Item::Load {
+                Ok(Instruction::Load {
                     width,
                     target,
                     buffer,
@@ -113,7 +100,7 @@ impl Scope<'_, '_> {
                 source,
             } => {
                 let buffer = self.sink(buffer)?;
-                Ok(Item::Store {
+                Ok(Instruction::Store {
                     width,
                     buffer,
                     index,
@@ -122,7 +109,7 @@ impl Scope<'_, '_> {
             }
             Instruction::Jump { to } => {
                 let to = self.target(k, to)?;
-                Ok(Item::Jump { to })
+                Ok(Instruction::Jump { to })
             }
             Instruction::Branch {
                 condition,
@@ -131,14 +118,14 @@ impl Scope<'_, '_> {
                 to,
             } => {
                 let to = self.target(k, to)?;
-                Ok(Item::Branch {
+                Ok(Instruction::Branch {
                     condition,
                     left,
                     right,
                     to,
                 })
             }
-            Instruction::Ret => Ok(Item::Ret),
+            Instruction::Ret => Ok(Instruction::Ret),
         }
     }
 }

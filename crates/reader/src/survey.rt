@@ -1,12 +1,12 @@
 ghost use Rattle.std.specs.Prelude.{◌≡◌, ◌≤◌, false, [], length, take, IfOk, Ok, Err, MatchResult};
 ghost use Rattle.lexer.specs.Lines.{lines_of};
 ghost use Rattle.reader.specs.Marked.{entries_of, Within};
-ghost use Rattle.grammar.specs.Reading.{survey_from, is_ret};
+ghost use Rattle.grammar.specs.Reading.{survey_from};
 
 use super::mark::{Mark, lookup};
 use grammar::ProgramFault;
-use lexer::{Lexer, Name};
-use syntax::{Instruction, Statement, parse_statement};
+use lexer::Lexer;
+use syntax::{Statement, parse_statement};
 
 /// How many labels and instructions the code of a text has, and whether its last line is `ret`.
 #[derive(Clone, Copy)]
@@ -14,15 +14,6 @@ pub(crate) struct Survey {
     pub(crate) labels: usize,
     pub(crate) instructions: usize,
     pub(crate) closed: bool,
-}
-
-fn is_ret(instruction: Instruction<Name>) -> bool
-    ensures { result ≡ is_ret instruction.entry }
-{
-    match instruction {
-        Instruction::Ret => true,
-        _ => false,
-    }
 }
 
 /// Writes the labels of the lines that are left to the front of the marks, and counts the instructions.
@@ -59,7 +50,7 @@ pub(crate) fn survey_code(
                     return Err(ProgramFault::Full(first.place));
                 }
                 instructions += 1;
-                closed = is_ret(instruction);
+                closed = instruction.is_ret();
             }
         }
     }

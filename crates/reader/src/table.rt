@@ -9,9 +9,9 @@ ghost use Rattle.lexer.specs.Foreign.{foreign};
 use super::buffers::read_buffers;
 use super::code::read_rest;
 use super::mark::Mark;
-use grammar::{ProgramFault, Shape};
+use grammar::ProgramFault;
 use lexer::{Lexer, Place, check_text};
-use rule::Record;
+use rule::{Record, Shape};
 use syntax::{LineFault, is_heading};
 
 /// Goes past the heading of a text, all of whose characters are fit.

@@ -7,8 +7,8 @@ use Rattle.lexer.specs.Lines.{Piece}
 use Rattle.lexer.specs.Numbers.{constant_in, size_in}
 use Rattle.rule.specs.declared.record.Mode.{Mode}
 use Rattle.rule.specs.declared.record.Mode.TheVariants.{ReadOnly, ReadWrite}
-use Rattle.rule.specs.declared.record.Operand.{Operand}
-use Rattle.rule.specs.declared.record.Operand.TheVariants.{Register, Constant}
+use Rattle.rule.specs.declared.instruction.Operand.{Operand}
+use Rattle.rule.specs.declared.instruction.Operand.TheVariants.{Register, Constant}
 
 abbrev pub register_of : Piece → Result ℕ FieldFault
 register_of p = or_kind (register_in p.bytes) p.place

@@ -7,8 +7,8 @@ use Rattle.lexer.specs.Lines.{Piece}
 use Rattle.syntax.specs.declared.fault.LineFault.{LineFault}
 use Rattle.syntax.specs.declared.statement.Header.{Header}
 use Rattle.syntax.specs.declared.statement.Header.TheVariants.{Code, Buffer}
-use Rattle.syntax.specs.declared.statement.Instruction.{Instruction}
-use Rattle.syntax.specs.declared.statement.Instruction.TheVariants.{Mov, Alu, Load, Store, Jump, Branch, Ret}
+use Rattle.rule.specs.declared.instruction.Instruction.{Instruction}
+use Rattle.rule.specs.declared.instruction.Instruction.TheVariants.{Mov, Alu, Load, Store, Jump, Branch, Ret}
 use Rattle.syntax.specs.declared.statement.Statement.{Statement}
 use Rattle.syntax.specs.declared.statement.Statement.TheVariants.{Label, Instruction as Instructs}
 

@@ -7,15 +7,15 @@ use Rattle.lexer.specs.declared.place.Place.{Place}
 use Rattle.lexer.specs.declared.fault.FieldFault.{FieldFault}
 use Rattle.lexer.specs.Fields.{named_in, unmarked, ends_in_colon}
 use Rattle.lexer.specs.Lines.{Piece}
-use Rattle.rule.specs.declared.record.Condition.{Condition}
+use Rattle.rule.specs.declared.instruction.Condition.{Condition}
 use Rattle.syntax.specs.declared.fault.LineFault.{LineFault}
 use Rattle.syntax.specs.declared.fault.LineFault.TheVariants.{Field, Form}
 use Rattle.syntax.specs.declared.mnemonic.Mnemonic.{Mnemonic}
 use Rattle.syntax.specs.declared.mnemonic.Mnemonic.TheVariants as word
 use Rattle.syntax.specs.declared.statement.Header.{Header}
 use Rattle.syntax.specs.declared.statement.Header.TheVariants.{Code, Buffer}
-use Rattle.syntax.specs.declared.statement.Instruction.{Instruction}
-use Rattle.syntax.specs.declared.statement.Instruction.TheVariants.{Mov, Alu, Load, Store, Jump, Branch, Ret}
+use Rattle.rule.specs.declared.instruction.Instruction.{Instruction}
+use Rattle.rule.specs.declared.instruction.Instruction.TheVariants.{Mov, Alu, Load, Store, Jump, Branch, Ret}
 use Rattle.syntax.specs.declared.statement.Statement.{Statement}
 use Rattle.syntax.specs.declared.statement.Statement.TheVariants.{Label, Instruction as Instructs}
 use Rattle.syntax.specs.Operands.{register_of, operand_of, size_of, mode_of}

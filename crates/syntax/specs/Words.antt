@@ -3,7 +3,7 @@ use Rattle.std.specs.Prelude.{ℕ, cond, List, [], ◌∷◌, Some, None, codes,
 use Rattle.std.specs.Str.{bytes_eq}
 use Rattle.words.specs.declared.operation.Operation.TheVariants.{Add, Sub, Mul, Div, And, Or, Xor, Shl, Shr}
 use Rattle.words.specs.declared.width.Width.TheVariants.{W8, W16, W32, W64}
-use Rattle.rule.specs.declared.record.Condition.TheVariants.{Equal, Unequal, Less, LessOrEqual}
+use Rattle.rule.specs.declared.instruction.Condition.TheVariants.{Equal, Unequal, Less, LessOrEqual}
 use Rattle.syntax.specs.declared.mnemonic.Mnemonic.{Mnemonic}
 use Rattle.syntax.specs.declared.mnemonic.Mnemonic.TheVariants.{Mov, Alu, Load, Store, Jump, Branch, Ret}
 

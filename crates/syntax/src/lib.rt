@@ -14,4 +14,4 @@ pub use fault::LineFault;
 pub use header::{is_heading, parse_header};
 pub use mnemonic::{Mnemonic, mnemonic_in};
 pub use parse::parse_statement;
-pub use statement::{Header, Instruction, Statement};
+pub use statement::{Header, Statement};

@@ -8,10 +8,10 @@ ghost use Rattle.syntax.specs.Words.{mnemonic_in};
 use super::fault::LineFault;
 use super::fields::{is_done, one_field, three_fields, two_fields};
 use super::mnemonic::{Mnemonic, mnemonic_in};
-use super::operand::{mode, operand, register};
-use super::statement::{Header, Instruction, Statement};
-use lexer::{Field, Line, Name, is_same};
-use rule::Condition;
+use super::operand::{operand, register};
+use super::statement::Statement;
+use lexer::{Field, Line, Name};
+use rule::{Condition, Instruction};
 use words::{Operation, Width};
 
 /// `mov a b`
