@@ -9,12 +9,13 @@ use Rattle.tristate.specs.Tristates.{known, unknown}
 use Rattle.range.specs.Ranges.{least, most}
 use Rattle.domain.specs.declared.domain.Domain.{Ghosts}
 use Rattle.domain.specs.declared.facts.Facts.{Facts}
-use Rattle.rule.specs.declared.record.Condition.{Condition}
+use Rattle.rule.specs.declared.instruction.Condition.{Condition}
 use Rattle.rule.specs.declared.record.Item.{Item}
-use Rattle.rule.specs.declared.record.Item.TheVariants.{Blank, Buffer, Mov, Alu, Load, Store, Jump, Branch, Ret}
+use Rattle.rule.specs.declared.record.Item.TheVariants.{Blank, Buffer, Instruction}
+use Rattle.rule.specs.declared.instruction.Instruction.TheVariants.{Mov, Alu, Load, Store, Jump, Branch, Ret}
 use Rattle.rule.specs.declared.record.Mode.{Mode}
-use Rattle.rule.specs.declared.record.Operand.{Operand}
-use Rattle.rule.specs.declared.record.Operand.TheVariants.{Constant}
+use Rattle.rule.specs.declared.instruction.Operand.{Operand}
+use Rattle.rule.specs.declared.instruction.Operand.TheVariants.{Constant}
 use Rattle.rule.specs.declared.record.Record.{Record}
 use Rattle.machine.specs.Machine.{reads, In}
 use Rattle.machine.specs.Tables.{size_at}
@@ -110,16 +111,16 @@ module _ {D : Type 0} (d : Ghosts D) (p : List Record) (row : List D) (m : Mark)
   from i s None None h z = by_number (lacks i) (no_unset i h) z
   from i s None (Some y) h z = (z.1, λ c l x. by_number (λ c. (cause_number c < cause_number y) × lacks i c) (λ w. no_unset i h w.1) z.2 c (l, x))
 
-  plain-mov : (t : ℕ) (s : Operand) → Beside (lacks (Mov t s))
+  plain-mov : (t : ℕ) (s : Operand) → Beside (lacks (Instruction (Mov t s)))
   plain-mov t s c l (unset k a b) = omega arith
 
-  plain_branch : (o : Condition) (l : ℕ) (s : Operand) (to : ℕ) → Beside (lacks (Branch o l s to))
+  plain_branch : (o : Condition) (l : ℕ) (s : Operand) (to : ℕ) → Beside (lacks (Instruction (Branch o l s to)))
   plain_branch o l s to c n (unset k a b) = omega arith
 
-  plain-ret : Beside (lacks Ret)
+  plain-ret : Beside (lacks (Instruction Ret))
   plain-ret c l (unset k a b) = omega arith
 
-  never-jump : (to : ℕ) (c : Cause) → lacks (Jump to) c → ⊥
+  never-jump : (to : ℕ) (c : Cause) → lacks (Instruction (Jump to)) c → ⊥
   never-jump to c (unset k a b) = a
 
   never-buffer : (size : ℕ) (mode : Mode) (c : Cause) → lacks (Buffer size mode) c → ⊥
@@ -146,34 +147,34 @@ module _ {D : Type 0} (d : Ghosts D) (p : List Record) (row : List D) (m : Mark)
   Quiet Shl = ⊥
   Quiet Shr = ⊥
 
-  quiet : (op : Operation) (t : ℕ) (s : Operand) → Quiet op → Beside (lacks (Alu op t s))
+  quiet : (op : Operation) (t : ℕ) (s : Operand) → Quiet op → Beside (lacks (Instruction (Alu op t s)))
   quiet op t s q c l (unset k a b) = omega arith
   quiet Div t s q Divisor l (divisor a b) = q
   quiet Shl t s q Shift l (shift_left a) = q
   quiet Shr t s q Shift l (shift_right a) = q
 
-  only-divisor : (t : ℕ) (s : Operand) (c : Cause) → 1 < cause_number c → lacks (Alu Div t s) c → (cause_number c ≡ cause_number Divisor) × ((known (told_of d row s).bits ≡ 0) × (least (told_of d row s).range ≡ 0))
+  only-divisor : (t : ℕ) (s : Operand) (c : Cause) → 1 < cause_number c → lacks (Instruction (Alu Div t s)) c → (cause_number c ≡ cause_number Divisor) × ((known (told_of d row s).bits ≡ 0) × (least (told_of d row s).range ≡ 0))
   only-divisor t s c l (unset k a b) = absurd (omega arith)
   only-divisor t s Divisor l (divisor a b) = (refl, (a, b))
 
-  only-left : (t : ℕ) (s : Operand) (c : Cause) → 1 < cause_number c → lacks (Alu Shl t s) c → (cause_number c ≡ cause_number Shift) × (63 < most (told_of d row s).range)
+  only-left : (t : ℕ) (s : Operand) (c : Cause) → 1 < cause_number c → lacks (Instruction (Alu Shl t s)) c → (cause_number c ≡ cause_number Shift) × (63 < most (told_of d row s).range)
   only-left t s c l (unset k a b) = absurd (omega arith)
   only-left t s Shift l (shift_left a) = (refl, a)
 
-  only-right : (t : ℕ) (s : Operand) (c : Cause) → 1 < cause_number c → lacks (Alu Shr t s) c → (cause_number c ≡ cause_number Shift) × (63 < most (told_of d row s).range)
+  only-right : (t : ℕ) (s : Operand) (c : Cause) → 1 < cause_number c → lacks (Instruction (Alu Shr t s)) c → (cause_number c ≡ cause_number Shift) × (63 < most (told_of d row s).range)
   only-right t s c l (unset k a b) = absurd (omega arith)
   only-right t s Shift l (shift_right a) = (refl, a)
 
-  alu-second : (op : Operation) (t : ℕ) (s : Operand) → Second (lacks (Alu op t s)) (alu_cause d op (amount d row s))
+  alu-second : (op : Operation) (t : ℕ) (s : Operand) → Second (lacks (Instruction (Alu op t s))) (alu_cause d op (amount d row s))
   alu-second Add t s = quiet Add t s tt
   alu-second Sub t s = quiet Sub t s tt
   alu-second Mul t s = quiet Mul t s tt
-  alu-second Div t s = alone (Alu Div t s) _ Divisor (omega arith) (λ h. divisor h.0 h.1) (only-divisor t s) (divisor_cause (told_of d row s)) (divisor-found (told_of d row s))
+  alu-second Div t s = alone (Instruction (Alu Div t s)) _ Divisor (omega arith) (λ h. divisor h.0 h.1) (only-divisor t s) (divisor_cause (told_of d row s)) (divisor-found (told_of d row s))
   alu-second And t s = quiet And t s tt
   alu-second Or t s = quiet Or t s tt
   alu-second Xor t s = quiet Xor t s tt
-  alu-second Shl t s = alone (Alu Shl t s) _ Shift (omega arith) (λ h. shift_left h) (only-left t s) (shift_cause (told_of d row s)) (shift_found (told_of d row s))
-  alu-second Shr t s = alone (Alu Shr t s) _ Shift (omega arith) (λ h. shift_right h) (only-right t s) (shift_cause (told_of d row s)) (shift_found (told_of d row s))
+  alu-second Shl t s = alone (Instruction (Alu Shl t s)) _ Shift (omega arith) (λ h. shift_left h) (only-left t s) (shift_cause (told_of d row s)) (shift_found (told_of d row s))
+  alu-second Shr t s = alone (Instruction (Alu Shr t s)) _ Shift (omega arith) (λ h. shift_right h) (only-right t s) (shift_cause (told_of d row s)) (shift_found (told_of d row s))
 
   -- ── accesses ──
 
@@ -202,12 +203,12 @@ module _ {D : Type 0} (d : Ghosts D) (p : List Record) (row : List D) (m : Mark)
       (cases_Bool even)))
       (cases_Bool over)
 
-  only-load : (w : Width) (t b : ℕ) (s : Operand) (c : Cause) → 1 < cause_number c → lacks (Load w t b s) c → Access (told_of d row s) w (size_at p b) c
+  only-load : (w : Width) (t b : ℕ) (s : Operand) (c : Cause) → 1 < cause_number c → lacks (Instruction (Load w t b s)) c → Access (told_of d row s) w (size_at p b) c
   only-load w t b s c l (unset k a e) = absurd (omega arith)
   only-load w t b s Beyond l (load_beyond a) = inl (refl, a)
   only-load w t b s Askew l (load_askew a) = inr (refl, a)
 
-  only_store : (w : Width) (b : ℕ) (s : Operand) (t : ℕ) (c : Cause) → 1 < cause_number c → lacks (Store w b s t) c → Access (told_of d row s) w (size_at p b) c
+  only_store : (w : Width) (b : ℕ) (s : Operand) (t : ℕ) (c : Cause) → 1 < cause_number c → lacks (Instruction (Store w b s t)) c → Access (told_of d row s) w (size_at p b) c
   only_store w b s t c l (unset k a e) = absurd (omega arith)
   only_store w b s t Beyond l (store_beyond a) = inl (refl, a)
   only_store w b s t Askew l (store_askew a) = inr (refl, a)
@@ -215,16 +216,16 @@ module _ {D : Type 0} (d : Ghosts D) (p : List Record) (row : List D) (m : Mark)
   -- ── any instruction ──
 
   pub judged-first : (i : Item) → First (lacks i) (judged d p line i row m)
-  judged-first (Mov t s) = from (Mov t s) s (first_unset m (reads (Mov t s))) None (first_of m (reads (Mov t s))) (plain-mov t s)
-  judged-first (Alu op t s) = from (Alu op t s) s (first_unset m (reads (Alu op t s))) (alu_cause d op (amount d row s)) (first_of m (reads (Alu op t s))) (alu-second op t s)
-  judged-first (Load w t b s) =
-      from (Load w t b s) s (first_unset m (reads (Load w t b s))) (access_cause (told_of d row s) w (size_at p b)) (first_of m (reads (Load w t b s)))
-      (access_second (Load w t b s) (told_of d row s) w (size_at p b) (λ h. load_beyond h) (λ h. load_askew h) (only-load w t b s))
-  judged-first (Store w b s t) =
-      from (Store w b s t) s (first_unset m (reads (Store w b s t))) (access_cause (told_of d row s) w (size_at p b)) (first_of m (reads (Store w b s t)))
-      (access_second (Store w b s t) (told_of d row s) w (size_at p b) (λ h. store_beyond h) (λ h. store_askew h) (only_store w b s t))
-  judged-first (Jump to) = never-jump to
-  judged-first (Branch c l s to) = from (Branch c l s to) s (first_unset m (reads (Branch c l s to))) None (first_of m (reads (Branch c l s to))) (plain_branch c l s to)
-  judged-first Ret = from Ret (Constant 0) (first_unset m (reads Ret)) None (first_of m (reads Ret)) plain-ret
+  judged-first (Instruction (Mov t s)) = from (Instruction (Mov t s)) s (first_unset m (reads (Instruction (Mov t s)))) None (first_of m (reads (Instruction (Mov t s)))) (plain-mov t s)
+  judged-first (Instruction (Alu op t s)) = from (Instruction (Alu op t s)) s (first_unset m (reads (Instruction (Alu op t s)))) (alu_cause d op (amount d row s)) (first_of m (reads (Instruction (Alu op t s)))) (alu-second op t s)
+  judged-first (Instruction (Load w t b s)) =
+      from (Instruction (Load w t b s)) s (first_unset m (reads (Instruction (Load w t b s)))) (access_cause (told_of d row s) w (size_at p b)) (first_of m (reads (Instruction (Load w t b s))))
+      (access_second (Instruction (Load w t b s)) (told_of d row s) w (size_at p b) (λ h. load_beyond h) (λ h. load_askew h) (only-load w t b s))
+  judged-first (Instruction (Store w b s t)) =
+      from (Instruction (Store w b s t)) s (first_unset m (reads (Instruction (Store w b s t)))) (access_cause (told_of d row s) w (size_at p b)) (first_of m (reads (Instruction (Store w b s t))))
+      (access_second (Instruction (Store w b s t)) (told_of d row s) w (size_at p b) (λ h. store_beyond h) (λ h. store_askew h) (only_store w b s t))
+  judged-first (Instruction (Jump to)) = never-jump to
+  judged-first (Instruction (Branch c l s to)) = from (Instruction (Branch c l s to)) s (first_unset m (reads (Instruction (Branch c l s to)))) None (first_of m (reads (Instruction (Branch c l s to)))) (plain_branch c l s to)
+  judged-first (Instruction Ret) = from (Instruction Ret) (Constant 0) (first_unset m (reads (Instruction Ret))) None (first_of m (reads (Instruction Ret))) plain-ret
   judged-first (Buffer size mode) = never-buffer size mode
   judged-first Blank = never-blank

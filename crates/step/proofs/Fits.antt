@@ -5,8 +5,8 @@ use Rattle.words.specs.Sets.{HoldsIn}
 use Rattle.words.specs.Words.{Word}
 use Rattle.domain.specs.declared.domain.Domain.{Ghosts}
 use Rattle.domain.specs.Lawful.{Lawful}
-use Rattle.rule.specs.declared.record.Operand.{Operand}
-use Rattle.rule.specs.declared.record.Operand.TheVariants.{Register, Constant}
+use Rattle.rule.specs.declared.instruction.Operand.{Operand}
+use Rattle.rule.specs.declared.instruction.Operand.TheVariants.{Register, Constant}
 use Rattle.machine.specs.Machine.{Regs, put, value, register_in}
 use Rattle.machine.specs.Valid.{ValidOperand}
 use Rattle.machine.proofs.Moving.{some_same}

@@ -14,13 +14,15 @@ use Rattle.words.specs.declared.width.Width.TheVariants.{W8, W16, W32, W64}
 use Rattle.words.proofs.Results.{result_word}
 use Rattle.domain.specs.declared.domain.Domain.{Ghosts}
 use Rattle.domain.specs.Lawful.{Lawful}
-use Rattle.rule.specs.declared.record.Condition.{Condition}
-use Rattle.rule.specs.declared.record.Condition.TheVariants as condition
+use Rattle.rule.specs.declared.instruction.Condition.{Condition}
+use Rattle.rule.specs.declared.instruction.Condition.TheVariants as condition
 use Rattle.rule.specs.declared.record.Item.{Item}
-use Rattle.rule.specs.declared.record.Item.TheVariants.{Blank, Buffer, Mov, Alu, Load, Store, Jump, Branch, Ret}
-use Rattle.rule.specs.declared.record.Operand.{Operand}
+use Rattle.rule.specs.declared.record.Item.TheVariants.{Blank, Buffer, Instruction}
+use Rattle.rule.specs.declared.instruction.Instruction.TheVariants.{Mov, Alu, Load, Store, Jump, Branch, Ret}
+use Rattle.rule.specs.declared.instruction.Operand.{Operand}
 use Rattle.rule.specs.declared.record.Record.{Record}
-use Rattle.machine.specs.Machine.{Regs, put, value, relation_of, Reaches, Does, Gives, Moves, register_in}
+use Rattle.rule.specs.Instructions.{relation_of}
+use Rattle.machine.specs.Machine.{Regs, put, value, Reaches, Does, Gives, Moves, register_in}
 use Rattle.machine.specs.Machine.Does.{mov, alu, load, store, jump, taken, missed}
 use Rattle.machine.specs.Machine.Gives.{ret}
 use Rattle.machine.specs.Valid.{ValidOperand, ValidItem}
@@ -42,15 +44,15 @@ pub record Safe {D : Type 0} (d : Ghosts D) (p : List Record) (row : List D) (m 
 
 -- only `ret` gives a word
 abbrev Returning : Item → Type 0
-Returning Ret = Unit {0}
+Returning (Instruction Ret) = Unit {0}
 Returning Blank = ⊥
 Returning (Buffer size mode) = ⊥
-Returning (Mov t s) = ⊥
-Returning (Alu op t s) = ⊥
-Returning (Load w t b s) = ⊥
-Returning (Store w b s t) = ⊥
-Returning (Jump to) = ⊥
-Returning (Branch c l s to) = ⊥
+Returning (Instruction (Mov t s)) = ⊥
+Returning (Instruction (Alu op t s)) = ⊥
+Returning (Instruction (Load w t b s)) = ⊥
+Returning (Instruction (Store w b s t)) = ⊥
+Returning (Instruction (Jump to)) = ⊥
+Returning (Instruction (Branch c l s to)) = ⊥
 
 gives-ret : {r : Regs} {w : ℕ} {i : Item} → Gives r w i → Returning i
 gives-ret (ret e) = tt
@@ -78,21 +80,21 @@ module _ {D : Type 0} (d : Ghosts D) (laws : Lawful d) where
 
   module _ (p : List Record) (row : List D) (m : Mark) (k line : ℕ) (r : Regs) (fit : Fits d row m r) where
     -- ── mov ──
-    mov-leads : (t : ℕ) (s : Operand) → Has d (amount d row s) (value r s) → (j : ℕ) (q : Regs) → Does p k r j q (Mov t s) → Leads d row m k (goes_on None (patched t (amount d row s))) j q
+    mov-leads : (t : ℕ) (s : Operand) → Has d (amount d row s) (value r s) → (j : ℕ) (q : Regs) → Does p k r j q (Instruction (Mov t s)) → Leads d row m k (goes_on None (patched t (amount d row s))) j q
     mov-leads t s h j q (mov x e ej eq) = inl (ej, subst (FitsChange d row m (patched t (amount d row s))) (sym eq) (written-fits d row m r fit t (amount d row s) x (has_fits d h x e) (has_held d h x e)))
 
-    safe-mov : (t : ℕ) (s : Operand) → ValidOperand s → first_unset m (register_in s) ≡ None → Safe d p row m k r (Mov t s) (goes_on None (patched t (amount d row s)))
+    safe-mov : (t : ℕ) (s : Operand) → ValidOperand s → first_unset m (register_in s) ≡ None → Safe d p row m k r (Instruction (Mov t s)) (goes_on None (patched t (amount d row s)))
     safe-mov t s vs none =
         let h = amount_has d row m r fit laws s vs none in
         record { moves = inr (k + 1, put r t h.word, mov h.word h.is refl refl); leads = mov-leads t s h; gives = λ w g. absurd (gives-ret g) }
 
     -- ── operations ──
-    alu-leads : (op : Operation) (t : ℕ) (s : Operand) → Has d (cell d row t) (r t) → Has d (amount d row s) (value r s) → (j : ℕ) (q : Regs) → Does p k r j q (Alu op t s) → Leads d row m k (goes_on None (patched t (d.applied op (cell d row t) (amount d row s)))) j q
+    alu-leads : (op : Operation) (t : ℕ) (s : Operand) → Has d (cell d row t) (r t) → Has d (amount d row s) (value r s) → (j : ℕ) (q : Regs) → Does p k r j q (Instruction (Alu op t s)) → Leads d row m k (goes_on None (patched t (d.applied op (cell d row t) (amount d row s)))) j q
     alu-leads op t s a h j q (alu x y ex ey ok ej eq) =
         let held = laws.of_holds op (cell d row t) (amount d row s) x y (has_fits d a x ex) (has_fits d h y ey) (has_held d a x ex) (has_held d h y ey) ok in
         inl (ej, subst (FitsChange d row m (patched t (d.applied op (cell d row t) (amount d row s)))) (sym eq) (written-fits d row m r fit t _ (result_of op x y) (result_word op x y (has_fits d a x ex) (has_fits d h y ey)) held))
 
-    safe-alu : (op : Operation) (t : ℕ) (s : Operand) → t < 8 → ValidOperand s → first_unset m (t ∷ register_in s) ≡ None → alu_cause d op (amount d row s) ≡ None → Safe d p row m k r (Alu op t s) (goes_on None (patched t (d.applied op (cell d row t) (amount d row s))))
+    safe-alu : (op : Operation) (t : ℕ) (s : Operand) → t < 8 → ValidOperand s → first_unset m (t ∷ register_in s) ≡ None → alu_cause d op (amount d row s) ≡ None → Safe d p row m k r (Instruction (Alu op t s)) (goes_on None (patched t (d.applied op (cell d row t) (amount d row s))))
     safe-alu op t s lt vs none cause =
         let set = set_first m t (register_in s) none in
         let a = fit t lt set.0 in
@@ -101,22 +103,22 @@ module _ {D : Type 0} (d : Ghosts D) (laws : Lawful d) where
         record { moves = inr (k + 1, put r t (result_of op a.word h.word), alu a.word h.word a.is h.is ok refl refl); leads = alu-leads op t s a h; gives = λ w g. absurd (gives-ret g) }
 
     -- ── loads and stores ──
-    load-leads : (w : Width) (t b : ℕ) (s : Operand) → (j : ℕ) (q : Regs) → Does p k r j q (Load w t b s) → Leads d row m k (goes_on None (patched t (d.under w))) j q
+    load-leads : (w : Width) (t b : ℕ) (s : Operand) → (j : ℕ) (q : Regs) → Does p k r j q (Instruction (Load w t b s)) → Leads d row m k (goes_on None (patched t (d.under w))) j q
     load-leads w t b s j q (load i x e re hx ej eq) =
         inl (ej, subst (FitsChange d row m (patched t (d.under w))) (sym eq) (written-fits d row m r fit t (d.under w) x (width_word w x hx) (laws.low_holds w x hx)))
 
     index_reaches : (b : ℕ) (w : Width) (s : Operand) → (h : Has d (amount d row s) (value r s)) → index_cause d p b w (amount d row s) ≡ None → Reaches p b w h.word
     index_reaches b w s h cause = access_shown (d.told (amount d row s)) p b w h.word cause (laws.facts_met (amount d row s) h.word h.fits h.held)
 
-    safe-load : (w : Width) (t b : ℕ) (s : Operand) → ValidOperand s → first_unset m (register_in s) ≡ None → index_cause d p b w (amount d row s) ≡ None → Safe d p row m k r (Load w t b s) (goes_on None (patched t (d.under w)))
+    safe-load : (w : Width) (t b : ℕ) (s : Operand) → ValidOperand s → first_unset m (register_in s) ≡ None → index_cause d p b w (amount d row s) ≡ None → Safe d p row m k r (Instruction (Load w t b s)) (goes_on None (patched t (d.under w)))
     safe-load w t b s vs none cause =
         let h = amount_has d row m r fit laws s vs none in
         record { moves = inr (k + 1, put r t 0, load h.word 0 h.is (index_reaches b w s h cause) (pow_pos (bits_of w)) refl refl); leads = load-leads w t b s; gives = λ w' g. absurd (gives-ret g) }
 
-    store-leads : (w : Width) (b : ℕ) (s : Operand) (t : ℕ) → (j : ℕ) (q : Regs) → Does p k r j q (Store w b s t) → Leads d row m k (goes_on None unchanged) j q
+    store-leads : (w : Width) (b : ℕ) (s : Operand) (t : ℕ) → (j : ℕ) (q : Regs) → Does p k r j q (Instruction (Store w b s t)) → Leads d row m k (goes_on None unchanged) j q
     store-leads w b s t j q (store i x e ex re ej eq) = inl (ej, subst (FitsChange d row m unchanged) (sym eq) (unchanged-fits d row m r fit))
 
-    safe-store : (w : Width) (b : ℕ) (s : Operand) (t : ℕ) → ValidOperand s → t < 8 → first_unset m (register_in s ++ t ∷ []) ≡ None → index_cause d p b w (amount d row s) ≡ None → Safe d p row m k r (Store w b s t) (goes_on None unchanged)
+    safe-store : (w : Width) (b : ℕ) (s : Operand) (t : ℕ) → ValidOperand s → t < 8 → first_unset m (register_in s ++ t ∷ []) ≡ None → index_cause d p b w (amount d row s) ≡ None → Safe d p row m k r (Instruction (Store w b s t)) (goes_on None unchanged)
     safe-store w b s t vs lt none cause =
         let set = set-append m (register_in s) (t ∷ []) none in
         let h = amount_has d row m r fit laws s vs set.0 in
@@ -124,10 +126,10 @@ module _ {D : Type 0} (d : Ghosts D) (laws : Lawful d) where
         record { moves = inr (k + 1, r, store h.word a.word h.is a.is (index_reaches b w s h cause) refl refl); leads = store-leads w b s t; gives = λ w' g. absurd (gives-ret g) }
 
     -- ── jumps ──
-    jump-leads : (to : ℕ) → (j : ℕ) (q : Regs) → Does p k r j q (Jump to) → Leads d row m k (transfer d p line (Jump to) row m) j q
+    jump-leads : (to : ℕ) → (j : ℕ) (q : Regs) → Does p k r j q (Instruction (Jump to)) → Leads d row m k (transfer d p line (Instruction (Jump to)) row m) j q
     jump-leads to j q (jump ej eq) = inr (ej, subst (FitsChange d row m unchanged) (sym eq) (unchanged-fits d row m r fit))
 
-    safe-jump : (to : ℕ) → Safe d p row m k r (Jump to) (transfer d p line (Jump to) row m)
+    safe-jump : (to : ℕ) → Safe d p row m k r (Instruction (Jump to)) (transfer d p line (Instruction (Jump to)) row m)
     safe-jump to = record { moves = inr (to, r, jump refl refl); leads = jump-leads to; gives = λ w g. absurd (gives-ret g) }
 
     -- a relation seen from the other side, and where it does not hold
@@ -163,7 +165,7 @@ module _ {D : Type 0} (d : Ghosts D) (laws : Lawful d) where
     abbrev branched : Condition → ℕ → Operand → ℕ → Outcome D
     branched c l s to = record { report = None; next = branch_side d None (opposite (relation_of c)) l s row; to = to; jump = branch_side d None (relation_of c) l s row; answer = None }
 
-    branch_leads : (c : Condition) (l : ℕ) (s : Operand) (to : ℕ) → Has d (cell d row l) (r l) → Has d (amount d row s) (value r s) → (j : ℕ) (q : Regs) → Does p k r j q (Branch c l s to) → Leads d row m k (branched c l s to) j q
+    branch_leads : (c : Condition) (l : ℕ) (s : Operand) (to : ℕ) → Has d (cell d row l) (r l) → Has d (amount d row s) (value r s) → (j : ℕ) (q : Regs) → Does p k r j q (Instruction (Branch c l s to)) → Leads d row m k (branched c l s to) j q
     branch_leads c l s to a h j q (taken x y ex ey re ej eq) = inr (ej, subst (FitsIn d row m (branch_side d None (relation_of c) l s row)) (sym eq) (side_fits (relation_of c) l s x y a h ex ey re))
     branch_leads c l s to a h j q (missed x y ex ey re ej eq) = inl (ej, subst (FitsIn d row m (branch_side d None (opposite (relation_of c)) l s row)) (sym eq) (side_fits (opposite (relation_of c)) l s x y a h ex ey (not_related c x y re)))
 
@@ -175,14 +177,14 @@ module _ {D : Type 0} (d : Ghosts D) (laws : Lawful d) where
     related_or relation.Greater x y = ⊎_elim (λ h. inl h) (λ h. inr (λ g. omega arith)) (cases_lt y x)
     related_or relation.GreaterOrEqual x y = ⊎_elim (λ h. inr (λ g. omega arith)) (λ h. inl h) (cases_lt x y)
 
-    branch_moves : (c : Condition) (l : ℕ) (s : Operand) (to : ℕ) → Has d (cell d row l) (r l) → Has d (amount d row s) (value r s) → Moves p k r (Branch c l s to)
+    branch_moves : (c : Condition) (l : ℕ) (s : Operand) (to : ℕ) → Has d (cell d row l) (r l) → Has d (amount d row s) (value r s) → Moves p k r (Instruction (Branch c l s to))
     branch_moves c l s to a h =
         ⊎_elim
         (λ re. inr (to, r, taken a.word h.word a.is h.is re refl refl))
         (λ re. inr (k + 1, r, missed a.word h.word a.is h.is re refl refl))
         (related_or (relation_of c) a.word h.word)
 
-    safe_branch : (c : Condition) (l : ℕ) (s : Operand) (to : ℕ) → l < 8 → ValidOperand s → first_unset m (l ∷ register_in s) ≡ None → Safe d p row m k r (Branch c l s to) (branched c l s to)
+    safe_branch : (c : Condition) (l : ℕ) (s : Operand) (to : ℕ) → l < 8 → ValidOperand s → first_unset m (l ∷ register_in s) ≡ None → Safe d p row m k r (Instruction (Branch c l s to)) (branched c l s to)
     safe_branch c l s to lt vs none =
         let set = set_first m l (register_in s) none in
         let a = fit l lt set.0 in
@@ -190,13 +192,13 @@ module _ {D : Type 0} (d : Ghosts D) (laws : Lawful d) where
         record { moves = branch_moves c l s to a h; leads = branch_leads c l s to a h; gives = λ w g. absurd (gives-ret g) }
 
     -- ── ret ──
-    ret-gives : Has d (cell d row 0) (r 0) → (w : ℕ) → Gives r w Ret → Word w × d.holds (cell d row 0) w
+    ret-gives : Has d (cell d row 0) (r 0) → (w : ℕ) → Gives r w (Instruction Ret) → Word w × d.holds (cell d row 0) w
     ret-gives h w (ret e) = (has_fits d h w e, has_held d h w e)
 
-    ret-leads : (o : Outcome D) (j : ℕ) (q : Regs) → Does p k r j q Ret → Leads d row m k o j q
+    ret-leads : (o : Outcome D) (j : ℕ) (q : Regs) → Does p k r j q (Instruction Ret) → Leads d row m k o j q
     ret-leads o j q e = elim e [ ]
 
-    safe-ret : first_unset m (0 ∷ []) ≡ None → Safe d p row m k r Ret (record { report = None; next = None; to = 0; jump = None; answer = Some (cell d row 0) })
+    safe-ret : first_unset m (0 ∷ []) ≡ None → Safe d p row m k r (Instruction Ret) (record { report = None; next = None; to = 0; jump = None; answer = Some (cell d row 0) })
     safe-ret none =
         let h = fit 0 (omega arith) (set_first m 0 [] none).0 in
         record { moves = inl (h.word, ret h.is); leads = ret-leads (record { report = None; next = None; to = 0; jump = None; answer = Some (cell d row 0) }); gives = ret-gives h }
@@ -204,24 +206,24 @@ module _ {D : Type 0} (d : Ghosts D) (laws : Lawful d) where
     -- ── any instruction ──
 
     pub safe_item : (n : ℕ) (i : Item) → ValidItem p n k i → judged d p line i row m ≡ None → Safe d p row m k r i (transfer d p line i row m)
-    safe_item n (Mov t s) v e =
+    safe_item n (Instruction (Mov t s)) v e =
         let h = first-none d line row (first_unset m (register_in s)) None e in
-        subst (λ o. Safe d p row m k r (Mov t s) (goes_on o (patched t (shown o (amount d row s) d.every)))) (sym e) (safe-mov t s v.1 h.0)
-    safe_item n (Alu op t s) v e =
+        subst (λ o. Safe d p row m k r (Instruction (Mov t s)) (goes_on o (patched t (shown o (amount d row s) d.every)))) (sym e) (safe-mov t s v.1 h.0)
+    safe_item n (Instruction (Alu op t s)) v e =
         let h = first-none d line row (first_unset m (t ∷ register_in s)) _ e in
-        subst (λ o. Safe d p row m k r (Alu op t s) (goes_on o (patched t (shown o (d.applied op (cell d row t) (amount d row s)) d.every)))) (sym e) (safe-alu op t s v.0 v.1 h.0 (doubt_none d line row s _ h.1))
-    safe_item n (Load w t b s) v e =
+        subst (λ o. Safe d p row m k r (Instruction (Alu op t s)) (goes_on o (patched t (shown o (d.applied op (cell d row t) (amount d row s)) d.every)))) (sym e) (safe-alu op t s v.0 v.1 h.0 (doubt_none d line row s _ h.1))
+    safe_item n (Instruction (Load w t b s)) v e =
         let h = first-none d line row (first_unset m (register_in s)) _ e in
-        subst (λ o. Safe d p row m k r (Load w t b s) (goes_on o (patched t (d.under w)))) (sym e) (safe-load w t b s v.2 h.0 (doubt_none d line row s _ h.1))
-    safe_item n (Store w b s t) v e =
+        subst (λ o. Safe d p row m k r (Instruction (Load w t b s)) (goes_on o (patched t (d.under w)))) (sym e) (safe-load w t b s v.2 h.0 (doubt_none d line row s _ h.1))
+    safe_item n (Instruction (Store w b s t)) v e =
         let h = first-none d line row (first_unset m (register_in s ++ t ∷ [])) _ e in
-        subst (λ o. Safe d p row m k r (Store w b s t) (goes_on o unchanged)) (sym e) (safe-store w b s t v.2 v.3 h.0 (doubt_none d line row s _ h.1))
-    safe_item n (Jump to) v e = safe-jump to
-    safe_item n (Branch c l s to) v e =
+        subst (λ o. Safe d p row m k r (Instruction (Store w b s t)) (goes_on o unchanged)) (sym e) (safe-store w b s t v.2 v.3 h.0 (doubt_none d line row s _ h.1))
+    safe_item n (Instruction (Jump to)) v e = safe-jump to
+    safe_item n (Instruction (Branch c l s to)) v e =
         let h = first-none d line row (first_unset m (l ∷ register_in s)) None e in
-        subst (λ o. Safe d p row m k r (Branch c l s to) (record { report = o; next = branch_side d o (opposite (relation_of c)) l s row; to = to; jump = branch_side d o (relation_of c) l s row; answer = None })) (sym e) (safe_branch c l s to v.0 v.1 h.0)
-    safe_item n Ret v e =
+        subst (λ o. Safe d p row m k r (Instruction (Branch c l s to)) (record { report = o; next = branch_side d o (opposite (relation_of c)) l s row; to = to; jump = branch_side d o (relation_of c) l s row; answer = None })) (sym e) (safe_branch c l s to v.0 v.1 h.0)
+    safe_item n (Instruction Ret) v e =
         let h = first-none d line row (first_unset m (0 ∷ [])) None e in
-        subst (λ o. Safe d p row m k r Ret (record { report = o; next = None; to = 0; jump = None; answer = shown o (Some (cell d row 0)) None })) (sym e) (safe-ret h.0)
+        subst (λ o. Safe d p row m k r (Instruction Ret) (record { report = o; next = None; to = 0; jump = None; answer = shown o (Some (cell d row 0)) None })) (sym e) (safe-ret h.0)
     safe_item n (Buffer size mode) v e = absurd v
     safe_item n Blank v e = absurd v

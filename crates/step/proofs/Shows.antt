@@ -11,7 +11,7 @@ use Rattle.range.specs.Ranges.{least, most}
 use Rattle.domain.specs.declared.domain.Domain.{Ghosts}
 use Rattle.domain.specs.declared.facts.Facts.{Facts}
 use Rattle.domain.specs.Facts.{Meets}
-use Rattle.rule.specs.declared.record.Operand.{Operand}
+use Rattle.rule.specs.declared.instruction.Operand.{Operand}
 use Rattle.rule.specs.declared.record.Record.{Record}
 use Rattle.machine.specs.Machine.{Reaches}
 use Rattle.machine.specs.Tables.{size_at}

@@ -8,8 +8,9 @@ use Rattle.range.specs.Ranges.{least, most}
 use Rattle.domain.specs.declared.domain.Domain.{Ghosts}
 use Rattle.domain.specs.declared.facts.Facts.{Facts}
 use Rattle.rule.specs.declared.record.Item.{Item}
-use Rattle.rule.specs.declared.record.Item.TheVariants.{Alu, Load, Store}
-use Rattle.rule.specs.declared.record.Operand.{Operand}
+use Rattle.rule.specs.declared.record.Item.TheVariants.{Instruction}
+use Rattle.rule.specs.declared.instruction.Instruction.TheVariants.{Alu, Load, Store}
+use Rattle.rule.specs.declared.instruction.Operand.{Operand}
 use Rattle.rule.specs.declared.record.Record.{Record}
 use Rattle.machine.specs.Machine.{reads, In}
 use Rattle.machine.specs.Tables.{size_at}
@@ -32,13 +33,13 @@ Multiples f w = (known f.bits % bytes_of w ≡ 0) × (unknown f.bits % bytes_of 
 -- bytes may lie beyond the buffer; the index is not shown to be a multiple of the width
 pub data Lacks {D : Type 0} (d : Ghosts D) (p : List Record) (row : List D) (m : Mark) : Item → Cause → Type 0 where
   unset : {i : Item} (k : ℕ) → In k (reads i) → is_set m k ≡ false → Lacks d p row m i Unset
-  divisor : {t : ℕ} {s : Operand} → known (told_of d row s).bits ≡ 0 → least (told_of d row s).range ≡ 0 → Lacks d p row m (Alu Div t s) Divisor
-  shift_left : {t : ℕ} {s : Operand} → 63 < most (told_of d row s).range → Lacks d p row m (Alu Shl t s) Shift
-  shift_right : {t : ℕ} {s : Operand} → 63 < most (told_of d row s).range → Lacks d p row m (Alu Shr t s) Shift
-  load_beyond : {w : Width} {t b : ℕ} {s : Operand} → size_at p b < most (told_of d row s).range + bytes_of w → Lacks d p row m (Load w t b s) Beyond
-  load_askew : {w : Width} {t b : ℕ} {s : Operand} → (Multiples (told_of d row s) w → ⊥) → Lacks d p row m (Load w t b s) Askew
-  store_beyond : {w : Width} {b : ℕ} {s : Operand} {t : ℕ} → size_at p b < most (told_of d row s).range + bytes_of w → Lacks d p row m (Store w b s t) Beyond
-  store_askew : {w : Width} {b : ℕ} {s : Operand} {t : ℕ} → (Multiples (told_of d row s) w → ⊥) → Lacks d p row m (Store w b s t) Askew
+  divisor : {t : ℕ} {s : Operand} → known (told_of d row s).bits ≡ 0 → least (told_of d row s).range ≡ 0 → Lacks d p row m (Instruction (Alu Div t s)) Divisor
+  shift_left : {t : ℕ} {s : Operand} → 63 < most (told_of d row s).range → Lacks d p row m (Instruction (Alu Shl t s)) Shift
+  shift_right : {t : ℕ} {s : Operand} → 63 < most (told_of d row s).range → Lacks d p row m (Instruction (Alu Shr t s)) Shift
+  load_beyond : {w : Width} {t b : ℕ} {s : Operand} → size_at p b < most (told_of d row s).range + bytes_of w → Lacks d p row m (Instruction (Load w t b s)) Beyond
+  load_askew : {w : Width} {t b : ℕ} {s : Operand} → (Multiples (told_of d row s) w → ⊥) → Lacks d p row m (Instruction (Load w t b s)) Askew
+  store_beyond : {w : Width} {b : ℕ} {s : Operand} {t : ℕ} → size_at p b < most (told_of d row s).range + bytes_of w → Lacks d p row m (Instruction (Store w b s t)) Beyond
+  store_askew : {w : Width} {b : ℕ} {s : Operand} {t : ℕ} → (Multiples (told_of d row s) w → ⊥) → Lacks d p row m (Instruction (Store w b s t)) Askew
 
 -- a report tells a cause, and none with a smaller number; where there is no report, there is no cause
 abbrev pub First : (Cause → Type 0) → Option Report → Type 0

@@ -1,10 +1,10 @@
 -- A row: what is known of the eight registers before an instruction. And what goes on from it.
 use Rattle.std.specs.Prelude.{ℕ, ◌<◌, Bool, false, cond, List, [], ◌∷◌, Some, None, Option, slice_index_or}
 use Rattle.rule.specs.declared.record.Item.{Item}
-use Rattle.rule.specs.declared.record.Item.TheVariants.{Blank, Buffer, Mov, Alu, Load, Store, Jump, Branch, Ret}
-use Rattle.rule.specs.declared.record.Operand.{Operand}
-use Rattle.rule.specs.declared.record.Operand.TheVariants.{Register, Constant}
-use Rattle.machine.specs.Valid.{ValidOperand}
+use Rattle.rule.specs.declared.record.Item.TheVariants.{Blank, Buffer, Instruction}
+use Rattle.rule.specs.declared.instruction.Instruction.TheVariants.{Mov, Alu, Load, Store, Jump, Branch, Ret}
+use Rattle.rule.specs.declared.instruction.Operand.{Operand}
+use Rattle.rule.specs.declared.instruction.Operand.TheVariants.{Register, Constant}
 use Rattle.range.specs.Ranges.{least, most}
 use Rattle.domain.specs.declared.domain.Domain.{Ghosts}
 use Rattle.domain.specs.declared.facts.Facts.{Facts}
@@ -75,27 +75,3 @@ goes_on r c = record { report = r; next = Some c; to = 0; jump = None; answer = 
 abbrev pub earlier : {X : Type 0} → Option X → Option X → Option X
 earlier (Some x) o = Some x
 earlier None o = o
-
--- the registers that an item reads are among the eight
-abbrev pub ReadsValid : Item → Type 0
-ReadsValid (Mov t s) = ValidOperand s
-ReadsValid (Alu op t s) = (t < 8) × ValidOperand s
-ReadsValid (Load w t b s) = ValidOperand s
-ReadsValid (Store w b s t) = ValidOperand s × (t < 8)
-ReadsValid (Branch c l s to) = (l < 8) × ValidOperand s
-ReadsValid (Jump to) = Unit {0}
-ReadsValid Ret = Unit {0}
-ReadsValid (Buffer size mode) = Unit {0}
-ReadsValid Blank = Unit {0}
-
--- and so are all its registers
-abbrev pub RegistersValid : Item → Type 0
-RegistersValid (Mov t s) = (t < 8) × ValidOperand s
-RegistersValid (Alu op t s) = (t < 8) × ValidOperand s
-RegistersValid (Load w t b s) = (t < 8) × ValidOperand s
-RegistersValid (Store w b s t) = ValidOperand s × (t < 8)
-RegistersValid (Branch c l s to) = (l < 8) × ValidOperand s
-RegistersValid (Jump to) = Unit {0}
-RegistersValid Ret = Unit {0}
-RegistersValid (Buffer size mode) = Unit {0}
-RegistersValid Blank = Unit {0}

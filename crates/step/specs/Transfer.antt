@@ -6,11 +6,13 @@ use Rattle.words.specs.declared.relation.Relation.{Relation}
 use Rattle.words.specs.declared.relation.Relation.TheVariants.{Equal, Unequal, Less, LessOrEqual, Greater, GreaterOrEqual}
 use Rattle.words.specs.declared.width.Width.{Width}
 use Rattle.rule.specs.declared.record.Item.{Item}
-use Rattle.rule.specs.declared.record.Item.TheVariants.{Blank, Buffer, Mov, Alu, Load, Store, Jump, Branch, Ret}
-use Rattle.rule.specs.declared.record.Operand.{Operand}
-use Rattle.rule.specs.declared.record.Operand.TheVariants.{Register, Constant}
+use Rattle.rule.specs.declared.record.Item.TheVariants.{Blank, Buffer, Instruction}
+use Rattle.rule.specs.declared.instruction.Instruction.TheVariants.{Mov, Alu, Load, Store, Jump, Branch, Ret}
+use Rattle.rule.specs.declared.instruction.Operand.{Operand}
+use Rattle.rule.specs.declared.instruction.Operand.TheVariants.{Register, Constant}
 use Rattle.rule.specs.declared.record.Record.{Record}
-use Rattle.machine.specs.Machine.{reads, relation_of}
+use Rattle.rule.specs.Instructions.{relation_of}
+use Rattle.machine.specs.Machine.{reads}
 use Rattle.machine.specs.Tables.{size_at}
 use Rattle.domain.specs.declared.domain.Domain.{Ghosts}
 use Rattle.step.specs.declared.cause.Cause.{Cause}
@@ -42,13 +44,13 @@ index_cause d p b w i = access_cause (d.told i) w (size_at p b)
 
 -- at most one report: the first cause
 abbrev pub judged : {D : Type 0} → Ghosts D → List Record → ℕ → Item → List D → Mark → Option Report
-judged d p line (Alu op t s) row m = first_report d line row (first_unset m (reads (Alu op t s))) (doubted d line row s (alu_cause d op (amount d row s)))
-judged d p line (Load w t b s) row m = first_report d line row (first_unset m (reads (Load w t b s))) (doubted d line row s (index_cause d p b w (amount d row s)))
-judged d p line (Store w b s t) row m = first_report d line row (first_unset m (reads (Store w b s t))) (doubted d line row s (index_cause d p b w (amount d row s)))
-judged d p line (Mov t s) row m = first_report d line row (first_unset m (reads (Mov t s))) None
-judged d p line (Branch c l s to) row m = first_report d line row (first_unset m (reads (Branch c l s to))) None
-judged d p line Ret row m = first_report d line row (first_unset m (reads Ret)) None
-judged d p line (Jump to) row m = None
+judged d p line (Instruction (Alu op t s)) row m = first_report d line row (first_unset m (reads (Instruction (Alu op t s)))) (doubted d line row s (alu_cause d op (amount d row s)))
+judged d p line (Instruction (Load w t b s)) row m = first_report d line row (first_unset m (reads (Instruction (Load w t b s)))) (doubted d line row s (index_cause d p b w (amount d row s)))
+judged d p line (Instruction (Store w b s t)) row m = first_report d line row (first_unset m (reads (Instruction (Store w b s t)))) (doubted d line row s (index_cause d p b w (amount d row s)))
+judged d p line (Instruction (Mov t s)) row m = first_report d line row (first_unset m (reads (Instruction (Mov t s)))) None
+judged d p line (Instruction (Branch c l s to)) row m = first_report d line row (first_unset m (reads (Instruction (Branch c l s to)))) None
+judged d p line (Instruction Ret) row m = first_report d line row (first_unset m (reads (Instruction Ret))) None
+judged d p line (Instruction (Jump to)) row m = None
 judged d p line (Buffer size mode) row m = None
 judged d p line Blank row m = None
 
@@ -95,14 +97,14 @@ abbrev pub branch_side : {D : Type 0} → Ghosts D → Option Report → Relatio
 branch_side d r rel l s row = shown r (cond (is_same l s) (Some unchanged) (side_of d rel l s row)) (Some unchanged)
 
 abbrev pub transfer : {D : Type 0} → Ghosts D → List Record → ℕ → Item → List D → Mark → Outcome D
-transfer d p line (Mov t s) row m = let r : Option Report = judged d p line (Mov t s) row m in goes_on r (patched t (shown r (amount d row s) d.every))
-transfer d p line (Alu op t s) row m = let r : Option Report = judged d p line (Alu op t s) row m in goes_on r (patched t (shown r (d.applied op (cell d row t) (amount d row s)) d.every))
-transfer d p line (Load w t b s) row m = goes_on (judged d p line (Load w t b s) row m) (patched t (d.under w))
-transfer d p line (Store w b s t) row m = goes_on (judged d p line (Store w b s t) row m) unchanged
-transfer d p line (Jump to) row m = record { report = None; next = None; to = to; jump = Some unchanged; answer = None }
-transfer d p line (Branch c l s to) row m =
-    let r : Option Report = judged d p line (Branch c l s to) row m in
+transfer d p line (Instruction (Mov t s)) row m = let r : Option Report = judged d p line (Instruction (Mov t s)) row m in goes_on r (patched t (shown r (amount d row s) d.every))
+transfer d p line (Instruction (Alu op t s)) row m = let r : Option Report = judged d p line (Instruction (Alu op t s)) row m in goes_on r (patched t (shown r (d.applied op (cell d row t) (amount d row s)) d.every))
+transfer d p line (Instruction (Load w t b s)) row m = goes_on (judged d p line (Instruction (Load w t b s)) row m) (patched t (d.under w))
+transfer d p line (Instruction (Store w b s t)) row m = goes_on (judged d p line (Instruction (Store w b s t)) row m) unchanged
+transfer d p line (Instruction (Jump to)) row m = record { report = None; next = None; to = to; jump = Some unchanged; answer = None }
+transfer d p line (Instruction (Branch c l s to)) row m =
+    let r : Option Report = judged d p line (Instruction (Branch c l s to)) row m in
     record { report = r; next = branch_side d r (opposite (relation_of c)) l s row; to = to; jump = branch_side d r (relation_of c) l s row; answer = None }
-transfer d p line Ret row m = let r : Option Report = judged d p line Ret row m in record { report = r; next = None; to = 0; jump = None; answer = shown r (Some (cell d row 0)) None }
+transfer d p line (Instruction Ret) row m = let r : Option Report = judged d p line (Instruction Ret) row m in record { report = r; next = None; to = 0; jump = None; answer = shown r (Some (cell d row 0)) None }
 transfer d p line (Buffer size mode) row m = record { report = None; next = None; to = 0; jump = None; answer = None }
 transfer d p line Blank row m = record { report = None; next = None; to = 0; jump = None; answer = None }

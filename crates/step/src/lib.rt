@@ -1,12 +1,12 @@
 //! What one instruction makes of what is known before it: whether its need is shown, and what is known after it.
 #![tactic(auto)]
 
+mod before;
 mod cause;
 mod judge;
 mod mark;
 mod outcome;
 mod report;
-mod rows;
 mod transfer;
 
 pub use cause::Cause;

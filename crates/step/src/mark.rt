@@ -1,5 +1,5 @@
 /// What is known of control before an instruction: whether it can come there, and which registers are then set.
-#[derive(Clone, Copy)]
+#[derive(Clone, Copy, PartialEq, Eq, Debug)]
 pub struct Mark {
     pub reached: bool,
     pub set: [bool; 8],

@@ -1,14 +1,14 @@
 use super::report::Report;
 
 /// A register that is set, and what is known of it.
-#[derive(Clone, Copy)]
+#[derive(Clone, Copy, PartialEq, Eq, Debug)]
 pub struct Patch<D> {
     pub register: u8,
     pub value: D,
 }
 
 /// How the row after an instruction differs from the row before it: in at most two registers.
-#[derive(Clone, Copy)]
+#[derive(Clone, Copy, PartialEq, Eq, Debug)]
 pub struct Change<D> {
     pub first: Option<Patch<D>>,
     pub second: Option<Patch<D>>,
@@ -16,7 +16,7 @@ pub struct Change<D> {
 
 /// What an instruction makes of its row: a report, what goes on to the next instruction, what goes to the one at `to`,
 /// and what it returns.
-#[derive(Clone, Copy)]
+#[derive(Clone, Copy, PartialEq, Eq, Debug)]
 pub struct Outcome<D> {
     pub report: Option<Report>,
     pub next: Option<Change<D>>,

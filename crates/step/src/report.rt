@@ -1,8 +1,12 @@
+ghost use Rattle.std.specs.Prelude.{◌≡◌};
+ghost use Rattle.step.specs.Rows.{reported};
+
 use super::cause::Cause;
+use domain::Facts;
 
 /// What is told of an instruction whose need is not shown: its line, the cause, the register concerned (none where it is
 /// a constant), and the range that the facts have for it.
-#[derive(Clone, Copy)]
+#[derive(Clone, Copy, PartialEq, Eq, Debug)]
 pub struct Report {
     pub line: usize,
     pub cause: Cause,
@@ -20,4 +24,16 @@ impl Report {
         least: 0,
         most: 0,
     };
+
+    pub(crate) fn new(line: usize, cause: Cause, register: Option<u8>, facts: Facts) -> Report
+        ensures { result ≡ reported line cause register facts }
+    {
+        Report {
+            line,
+            cause,
+            register,
+            least: facts.range.least(),
+            most: facts.range.most(),
+        }
+    }
 }

@@ -1,19 +1,19 @@
-ghost use Rattle.std.specs.Prelude.{◌≡◌, ◌<◌, length, Some, None};
-ghost use Rattle.rule.specs.declared.record.Item.TheVariants.{Mov as IsMov, Alu as IsAlu, Load as IsLoad, Store as IsStore, Branch as IsBranch, Ret as IsRet};
-ghost use Rattle.machine.specs.Machine.{relation_of};
-ghost use Rattle.machine.specs.Valid.{ValidOperand, ValidItem};
-ghost use Rattle.step.specs.Rows.{cell, amount, unchanged as no_change, patched, goes_on, shown, ReadsValid, RegistersValid};
+ghost use Rattle.std.specs.Prelude.{◌≡◌, Some, None};
+ghost use Rattle.rule.specs.declared.record.Item.TheVariants.{Instruction as Instructs};
+ghost use Rattle.rule.specs.declared.instruction.Instruction.TheVariants as instruction;
+ghost use Rattle.rule.specs.Instructions.{relation_of};
+ghost use Rattle.step.specs.Rows.{cell, amount, unchanged, patched, goes_on, shown};
 ghost use Rattle.step.specs.Transfer.{alu_cause, index_cause, judged, opposite as opposite_of, mirrored, side_of, is_same, patch_to, branch_side, transfer};
 
+use super::before::Before;
 use super::cause::Cause;
 use super::judge::{judge_access, judge_divisor, judge_shift};
 use super::mark::Mark;
 use super::outcome::{Change, Outcome, Patch};
 use super::report::Report;
-use super::rows::{amount_of, cell_at, doubt, first_report, first_unset};
 use domain::Domain;
 use machine::size_of;
-use rule::{Condition, Item, Operand, Record};
+use rule::{Condition, Instruction, Item, Operand, Record};
 use words::{Operation, Relation, Width};
 
 // ── whether there is a report ──
@@ -43,68 +43,60 @@ fn index_cause<D: Domain>(table: &[Record], buffer: usize, width: Width, index: 
 fn judge<D: Domain>(
     table: &[Record],
     line: usize,
-    item: Item,
-    row: &[D],
-    mark: Mark,
+    instruction: Instruction<usize>,
+    before: Before<'_, D>,
 ) -> Option<Report>
-    requires { (length row.now ≡ 8) × (ReadsValid item) }
-    ensures { result ≡ judged D.Domain table.now line item row.now mark }
+    ensures { result ≡ judged D.Domain table.now line (Instructs instruction) before.entry.row.now before.entry.mark }
 {
-    let unset = first_unset(mark, item);
-    let other = match item {
-        Item::Alu {
+    let other = match instruction {
+        Instruction::Alu {
             operation,
-            target: _,
             operand,
+            ..
         } => {
-            doubt(
-                line,
-                row,
-                operand,
-                alu_cause(operation, amount_of(row, operand)),
-            )
+            let cause = alu_cause(operation, before.amount(operand));
+            before.doubt(line, operand, cause)
         }
-        Item::Load {
-            width,
-            target: _,
-            buffer,
-            index,
-        }
-        | Item::Store {
+        Instruction::Load {
             width,
             buffer,
             index,
-            source: _,
+            ..
+        }
+        | Instruction::Store {
+            width,
+            buffer,
+            index,
+            ..
         } => {
-            doubt(
-                line,
-                row,
-                index,
-                index_cause(table, buffer, width, amount_of(row, index)),
-            )
+            let cause = index_cause(table, buffer, width, before.amount(index));
+            before.doubt(line, index, cause)
         }
         _ => None,
     };
-    first_report(line, row, unset, other)
+    before.report(line, instruction, other)
 }
 
 // ── what goes on ──
 
-fn change_one<D: Domain>(register: u8, value: D) -> Change<D>
-    ensures { result ≡ patched register value }
-{
-    Change {
-        first: Some(Patch { register, value }),
-        second: None,
+impl<D: Domain> Change<D> {
+    /// One register changes.
+    fn one(register: u8, value: D) -> Change<D>
+        ensures { result ≡ patched register value }
+    {
+        Change {
+            first: Some(Patch { register, value }),
+            second: None,
+        }
     }
-}
 
-fn change_none<D: Domain>() -> Change<D>
-    ensures { result ≡ no_change }
-{
-    Change {
-        first: None,
-        second: None,
+    fn none() -> Change<D>
+        ensures { result ≡ unchanged }
+    {
+        Change {
+            first: None,
+            second: None,
+        }
     }
 }
 
@@ -120,6 +112,7 @@ fn go_on<D: Domain>(report: Option<Report>, change: Change<D>) -> Outcome<D>
     }
 }
 
+/// After a report the target holds any.
 fn choose<D: Domain>(report: Option<Report>, value: D) -> D
     ensures { result ≡ shown report value D.Domain.every }
 {
@@ -127,30 +120,6 @@ fn choose<D: Domain>(report: Option<Report>, value: D) -> D
         Some(_) => D::any(),
         None => value,
     }
-}
-
-fn mov<D: Domain>(report: Option<Report>, target: u8, source: Operand, row: &[D]) -> Outcome<D>
-    requires { (length row.now ≡ 8) × (ValidOperand source) }
-    ensures { result ≡ goes_on report (patched target (shown report (amount D.Domain row.now source) D.Domain.every)) }
-{
-    go_on(
-        report,
-        change_one(target, choose(report, amount_of(row, source))),
-    )
-}
-
-fn alu<D: Domain>(
-    report: Option<Report>,
-    operation: Operation,
-    target: u8,
-    operand: Operand,
-    row: &[D],
-) -> Outcome<D>
-    requires { (length row.now ≡ 8) × ((target < 8) × (ValidOperand operand)) }
-    ensures { result ≡ goes_on report (patched target (shown report (D.Domain.applied operation (cell D.Domain row.now target) (amount D.Domain row.now operand)) D.Domain.every)) }
-{
-    let value = D::of(operation, cell_at(row, target), amount_of(row, operand));
-    go_on(report, change_one(target, choose(report, value)))
 }
 
 fn opposite(relation: Relation) -> Relation
@@ -179,17 +148,6 @@ fn mirror(relation: Relation) -> Relation
     }
 }
 
-fn relation_of(condition: Condition) -> Relation
-    ensures { result ≡ relation_of condition }
-{
-    match condition {
-        Condition::Equal => Relation::Equal,
-        Condition::Unequal => Relation::Unequal,
-        Condition::Less => Relation::Less,
-        Condition::LessOrEqual => Relation::LessOrEqual,
-    }
-}
-
 fn is_same(left: u8, right: Operand) -> bool
     ensures { result ≡ is_same left right }
 {
@@ -209,12 +167,16 @@ fn patch_to<D: Domain>(operand: Operand, value: D) -> Option<Patch<D>>
 }
 
 /// Both operands narrowed from their values at the entry; none where either is closed.
-fn side<D: Domain>(relation: Relation, left: u8, right: Operand, row: &[D]) -> Option<Change<D>>
-    requires { (length row.now ≡ 8) × ((left < 8) × (ValidOperand right)) }
-    ensures { result ≡ side_of D.Domain relation left right row.now }
+fn side<D: Domain>(
+    relation: Relation,
+    left: u8,
+    right: Operand,
+    before: Before<'_, D>,
+) -> Option<Change<D>>
+    ensures { result ≡ side_of D.Domain relation left right before.entry.row.now }
 {
-    let a = cell_at(row, left);
-    let b = amount_of(row, right);
+    let a = before.cell(left);
+    let b = before.amount(right);
     let value = a.narrow(relation, b)?;
     let other = b.narrow(mirror(relation), a)?;
     Some(Change {
@@ -232,15 +194,14 @@ fn branch_side<D: Domain>(
     relation: Relation,
     left: u8,
     right: Operand,
-    row: &[D],
+    before: Before<'_, D>,
 ) -> Option<Change<D>>
-    requires { (length row.now ≡ 8) × ((left < 8) × (ValidOperand right)) }
-    ensures { result ≡ branch_side D.Domain report relation left right row.now }
+    ensures { result ≡ branch_side D.Domain report relation left right before.entry.row.now }
 {
     match report {
-        Some(_) => Some(change_none()),
-        None if is_same(left, right) => Some(change_none()),
-        None => side(relation, left, right, row),
+        Some(_) => Some(Change::none()),
+        None if is_same(left, right) => Some(Change::none()),
+        None => side(relation, left, right, before),
     }
 }
 
@@ -250,17 +211,16 @@ fn branch<D: Domain>(
     left: u8,
     right: Operand,
     to: usize,
-    row: &[D],
+    before: Before<'_, D>,
 ) -> Outcome<D>
-    requires { (length row.now ≡ 8) × ((left < 8) × (ValidOperand right)) }
-    ensures { result ≡ record { report = report; next = branch_side D.Domain report (opposite_of (relation_of condition)) left right row.now; to = to; jump = branch_side D.Domain report (relation_of condition) left right row.now; answer = None } }
+    ensures { result ≡ record { report = report; next = branch_side D.Domain report (opposite_of (relation_of condition)) left right before.entry.row.now; to = to; jump = branch_side D.Domain report (relation_of condition) left right before.entry.row.now; answer = None } }
 {
-    let relation = relation_of(condition);
+    let relation = Relation::from(condition);
     Outcome {
         report,
-        next: branch_side(report, opposite(relation), left, right, row),
+        next: branch_side(report, opposite(relation), left, right, before),
         to,
-        jump: branch_side(report, relation, left, right, row),
+        jump: branch_side(report, relation, left, right, before),
         answer: None,
     }
 }
@@ -283,18 +243,55 @@ fn stop<D: Domain>(
     }
 }
 
-fn ret<D: Domain>(report: Option<Report>, row: &[D]) -> Outcome<D>
-    requires { length row.now ≡ 8 }
-    ensures { result ≡ record { report = report; next = None; to = 0; jump = None; answer = shown report (Some (cell D.Domain row.now 0)) None } }
+fn ret<D: Domain>(report: Option<Report>, before: Before<'_, D>) -> Outcome<D>
+    ensures { result ≡ record { report = report; next = None; to = 0; jump = None; answer = shown report (Some (cell D.Domain before.entry.row.now 0)) None } }
 {
     match report {
         Some(_) => stop(report, 0, None, None),
-        None => stop(report, 0, None, Some(cell_at(row, 0))),
+        None => stop(report, 0, None, Some(before.cell(0))),
     }
 }
 
-/// What the instruction makes of its row and mark. Public only because crates divide the check: the row has eight
-/// values, and the instruction's registers are among the eight.
+/// What an instruction makes of what is known before it.
+fn carry_out<D: Domain>(
+    table: &[Record],
+    line: usize,
+    instruction: Instruction<usize>,
+    before: Before<'_, D>,
+) -> Outcome<D>
+    ensures { result ≡ transfer D.Domain table.now line (Instructs instruction) before.entry.row.now before.entry.mark }
+{
+    let report = judge(table, line, instruction, before);
+    match instruction {
+        Instruction::Mov { target, source } => {
+            let value = before.amount(source);
+            go_on(report, Change::one(target, choose(report, value)))
+        }
+        Instruction::Alu {
+            operation,
+            target,
+            operand,
+        } => {
+            let value = D::of(operation, before.cell(target), before.amount(operand));
+            go_on(report, Change::one(target, choose(report, value)))
+        }
+        Instruction::Load { width, target, .. } => go_on(
+            report,
+            Change::one(target, D::low(width)),
+        ),
+        Instruction::Store { .. } => go_on(report, Change::none()),
+        Instruction::Jump { to } => stop(report, to, Some(Change::none()), None),
+        Instruction::Branch {
+            condition,
+            left,
+            right,
+            to,
+        } => branch(report, condition, left, right, to, before),
+        Instruction::Ret => ret(report, before),
+    }
+}
+
+/// What the instruction makes of its row and mark. What is no instruction leads nowhere.
 pub fn carry<D: Domain>(
     table: &[Record],
     line: usize,
@@ -302,38 +299,12 @@ pub fn carry<D: Domain>(
     row: &[D],
     mark: Mark,
 ) -> Outcome<D>
-    requires row { length row.now ≡ 8 }
-    requires registers { RegistersValid item }
     ensures { result ≡ transfer D.Domain table.now line item row.now mark }
 {
-    let report = judge(table, line, item, row, mark);
     match item {
-        Item::Mov { target, source } => mov(report, target, source, row),
-        Item::Alu {
-            operation,
-            target,
-            operand,
-        } => alu(report, operation, target, operand, row),
-        Item::Load {
-            width,
-            target,
-            buffer: _,
-            index: _,
-        } => go_on(report, change_one(target, D::low(width))),
-        Item::Store {
-            width: _,
-            buffer: _,
-            index: _,
-            source: _,
-        } => go_on(report, change_none()),
-        Item::Jump { to } => stop(report, to, Some(change_none()), None),
-        Item::Branch {
-            condition,
-            left,
-            right,
-            to,
-        } => branch(report, condition, left, right, to, row),
-        Item::Ret => ret(report, row),
-        Item::Buffer { size: _, mode: _ } | Item::Blank => stop(report, 0, None, None),
+        Item::Instruction(instruction) => {
+            carry_out(table, line, instruction, Before { row, mark })
+        }
+        Item::Buffer { .. } | Item::Blank => stop(None, 0, None, None),
     }
 }

@@ -4,7 +4,8 @@ use Rattle.std.proofs.lemmas.List.{take_more_set, drop-set-lt, drop-drop, length
 use Rattle.std.proofs.lemmas.Bool.{cases_Bool, cond-true, cond-false, and_left}
 use Rattle.domain.specs.declared.domain.Domain.{Ghosts}
 use Rattle.rule.specs.declared.record.Item.{Item}
-use Rattle.rule.specs.declared.record.Item.TheVariants.{Blank, Buffer, Mov, Alu, Load, Store, Jump, Branch, Ret}
+use Rattle.rule.specs.declared.record.Item.TheVariants.{Blank, Buffer, Instruction}
+use Rattle.rule.specs.declared.instruction.Instruction.TheVariants.{Mov, Alu, Load, Store, Jump, Branch, Ret}
 use Rattle.rule.specs.declared.record.Record.{Record}
 use Rattle.machine.specs.Tables.{code_length, code_at, item_at}
 use Rattle.machine.specs.Valid.{is_ret, Valid}
@@ -45,13 +46,13 @@ joined-none d (Some a) = refl
 
 -- only `ret` returns, where nothing is reported
 transfer-answer : {D : Type 0} (d : Ghosts D) (p : List Record) (line : ℕ) (i : Item) (row : List D) (m : Mark) → (transfer d p line i row m).answer ≡ cond (is_ret i) (shown (judged d p line i row m) (Some (cell d row 0)) None) None
-transfer-answer d p line (Mov t s) row m = refl
-transfer-answer d p line (Alu op t s) row m = refl
-transfer-answer d p line (Load w t b s) row m = refl
-transfer-answer d p line (Store w b s t) row m = refl
-transfer-answer d p line (Jump to) row m = refl
-transfer-answer d p line (Branch c l s to) row m = refl
-transfer-answer d p line Ret row m = refl
+transfer-answer d p line (Instruction (Mov t s)) row m = refl
+transfer-answer d p line (Instruction (Alu op t s)) row m = refl
+transfer-answer d p line (Instruction (Load w t b s)) row m = refl
+transfer-answer d p line (Instruction (Store w b s t)) row m = refl
+transfer-answer d p line (Instruction (Jump to)) row m = refl
+transfer-answer d p line (Instruction (Branch c l s to)) row m = refl
+transfer-answer d p line (Instruction Ret) row m = refl
 transfer-answer d p line (Buffer size mode) row m = refl
 transfer-answer d p line Blank row m = refl
 

@@ -2,7 +2,8 @@
 use Rattle.std.proofs.Common.{◌≡◌, ℕ, ◌+◌, ◌-◌, ◌<◌, ◌≤◌, false, List, Some, None, Option, refl, ap, ◌∙◌, ⊎_elim, arith}
 use Rattle.std.proofs.lemmas.Bool.{cases_eq, both_ways}
 use Rattle.rule.specs.declared.record.Item.{Item}
-use Rattle.rule.specs.declared.record.Item.TheVariants.{Blank, Buffer, Mov, Alu, Load, Store, Jump, Branch, Ret}
+use Rattle.rule.specs.declared.record.Item.TheVariants.{Blank, Buffer, Instruction}
+use Rattle.rule.specs.declared.instruction.Instruction.TheVariants.{Mov, Alu, Load, Store, Jump, Branch, Ret}
 use Rattle.rule.specs.declared.record.Record.{Record}
 use Rattle.machine.specs.Tables.{code_length, item_at}
 use Rattle.machine.specs.Valid.{is_ret, ValidItem, Valid}
@@ -13,13 +14,13 @@ use Rattle.step.specs.Transfer.{transfer}
 use Rattle.walk.specs.Walk.{Present, Ways}
 
 pub registers_of : (p : List Record) (n k : ℕ) (i : Item) → ValidItem p n k i → RegistersValid i
-registers_of p n k (Mov t s) v = v
-registers_of p n k (Alu op t s) v = v
-registers_of p n k (Load w t b s) v = (v.0, v.2)
-registers_of p n k (Store w b s t) v = (v.2, v.3)
-registers_of p n k (Branch c l s to) v = (v.0, v.1)
-registers_of p n k (Jump to) v = tt
-registers_of p n k Ret v = tt
+registers_of p n k (Instruction (Mov t s)) v = v
+registers_of p n k (Instruction (Alu op t s)) v = v
+registers_of p n k (Instruction (Load w t b s)) v = (v.0, v.2)
+registers_of p n k (Instruction (Store w b s t)) v = (v.2, v.3)
+registers_of p n k (Instruction (Branch c l s to)) v = (v.0, v.1)
+registers_of p n k (Instruction (Jump to)) v = tt
+registers_of p n k (Instruction Ret) v = tt
 registers_of p n k (Buffer size mode) v = tt
 registers_of p n k Blank v = tt
 
@@ -37,13 +38,13 @@ onward p k v h other =
 
 module _ {D : Type 0} (d : Ghosts D) (p : List Record) (line : ℕ) (row : List D) (m : Mark) where
   ways_item : (n a k : ℕ) (i : Item) → n ≤ a → ValidItem p n k i → (is_ret i ≡ false → k + 1 < n) → Ways a k (transfer d p line i row m)
-  ways_item n a k (Mov t s) le v on = let h = on refl in (omega arith, tt)
-  ways_item n a k (Alu op t s) le v on = let h = on refl in (omega arith, tt)
-  ways_item n a k (Load w t b s) le v on = let h = on refl in (omega arith, tt)
-  ways_item n a k (Store w b s t) le v on = let h = on refl in (omega arith, tt)
-  ways_item n a k (Branch c l s to) le v on = let next : k + 1 < a = let h = on refl in omega arith in let jump : (k < to) × (to < a) = (v.2, omega (arith, v.3)) in (present _ next, present _ jump)
-  ways_item n a k (Jump to) le v on = (tt, (v.0, omega (arith, v.1)))
-  ways_item n a k Ret le v on = (tt, tt)
+  ways_item n a k (Instruction (Mov t s)) le v on = let h = on refl in (omega arith, tt)
+  ways_item n a k (Instruction (Alu op t s)) le v on = let h = on refl in (omega arith, tt)
+  ways_item n a k (Instruction (Load w t b s)) le v on = let h = on refl in (omega arith, tt)
+  ways_item n a k (Instruction (Store w b s t)) le v on = let h = on refl in (omega arith, tt)
+  ways_item n a k (Instruction (Branch c l s to)) le v on = let next : k + 1 < a = let h = on refl in omega arith in let jump : (k < to) × (to < a) = (v.2, omega (arith, v.3)) in (present _ next, present _ jump)
+  ways_item n a k (Instruction (Jump to)) le v on = (tt, (v.0, omega (arith, v.1)))
+  ways_item n a k (Instruction Ret) le v on = (tt, tt)
   ways_item n a k (Buffer size mode) le v on = (tt, tt)
   ways_item n a k Blank le v on = (tt, tt)
 

@@ -7,7 +7,8 @@ use Rattle.words.specs.Words.{Word}
 use Rattle.domain.specs.declared.domain.Domain.{Ghosts}
 use Rattle.domain.specs.Lawful.{Lawful}
 use Rattle.rule.specs.declared.record.Item.{Item}
-use Rattle.rule.specs.declared.record.Item.TheVariants.{Blank, Buffer, Mov, Alu, Load, Store, Jump, Branch, Ret}
+use Rattle.rule.specs.declared.record.Item.TheVariants.{Blank, Buffer, Instruction}
+use Rattle.rule.specs.declared.instruction.Instruction.TheVariants.{Mov, Alu, Load, Store, Jump, Branch, Ret}
 use Rattle.rule.specs.declared.record.Record.{Record}
 use Rattle.machine.specs.Machine.{Regs, Does, Gives, Moves, Run, Inputs, Reached, entry}
 use Rattle.machine.specs.Machine.Run.{start, more}
@@ -49,13 +50,13 @@ nothing-noted None n e = (refl, e)
 nothing-noted (Some r) n e = absurd (omega arith)
 
 pub transfer_report : {D : Type 0} (d : Ghosts D) (p : List Record) (line : ℕ) (i : Item) (row : List D) (m : Mark) → (transfer d p line i row m).report ≡ judged d p line i row m
-transfer_report d p line (Mov t s) row m = refl
-transfer_report d p line (Alu op t s) row m = refl
-transfer_report d p line (Load w t b s) row m = refl
-transfer_report d p line (Store w b s t) row m = refl
-transfer_report d p line (Jump to) row m = refl
-transfer_report d p line (Branch c l s to) row m = refl
-transfer_report d p line Ret row m = refl
+transfer_report d p line (Instruction (Mov t s)) row m = refl
+transfer_report d p line (Instruction (Alu op t s)) row m = refl
+transfer_report d p line (Instruction (Load w t b s)) row m = refl
+transfer_report d p line (Instruction (Store w b s t)) row m = refl
+transfer_report d p line (Instruction (Jump to)) row m = refl
+transfer_report d p line (Instruction (Branch c l s to)) row m = refl
+transfer_report d p line (Instruction Ret) row m = refl
 transfer_report d p line (Buffer size mode) row m = refl
 transfer_report d p line Blank row m = refl
 
