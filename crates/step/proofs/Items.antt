@@ -1,6 +1,6 @@
 -- Each instruction: where its row and mark tell the truth and nothing is reported, it can be carried out, and what goes
 -- on tells the truth.
-use Rattle.std.proofs.Common.{◌≡◌, ℕ, ◌+◌, ◌^◌, ◌<◌, cond, ◌⊎◌, List, [], ◌∷◌, ◌++◌, Some, None, sym, refl, subst, inl, inr, ⊎_elim, arith, pow_pos}
+use Rattle.std.proofs.Common.{Option, ◌≡◌, ℕ, ◌+◌, ◌^◌, ◌<◌, cond, ◌⊎◌, List, [], ◌∷◌, ◌++◌, Some, None, sym, refl, subst, inl, inr, ⊎_elim, arith, pow_pos}
 use Rattle.std.proofs.lemmas.Bool.{cond-true, cond-false, cases_Bool, cases_lt, cases_eq}
 use Rattle.words.specs.Sets.{HoldsIn}
 use Rattle.words.specs.Widths.{bits_of}
@@ -27,20 +27,27 @@ use Rattle.machine.specs.Machine.Does.{mov, alu, load, store, jump, taken, misse
 use Rattle.machine.specs.Machine.Gives.{ret}
 use Rattle.machine.specs.Valid.{ValidOperand, ValidItem}
 use Rattle.step.specs.declared.mark.Mark.{Mark}
+use Rattle.step.specs.declared.outcome.Change.{Change}
 use Rattle.step.specs.declared.outcome.Outcome.{Outcome}
+use Rattle.step.specs.Changes.{change_of, place_of}
 use Rattle.step.specs.Rows.{cell, amount, first_unset, unchanged, patched, shown, goes_on}
-use Rattle.step.specs.Transfer.{alu_cause, index_cause, judged, opposite, mirrored, side_of, is_same, branch_side, transfer}
+use Rattle.step.specs.Transfer.{alu_cause, index_cause, judged, opposite, mirrored, side_of, is_same, branch_side, jump_to, transfer}
 use Rattle.step.proofs.Fits.{Has, Fits, FitsChange, FitsIn, has_fits, has_held, unchanged-fits, written-fits, both_fits, amount_has}
 use Rattle.step.proofs.Shows.{divisor-shown, shift_shown, access_shown, doubt_none, first-none, set_first, set-append}
 
 -- one of the two ways on tells the truth
 abbrev pub Leads : {D : Type 0} → Ghosts D → List D → Mark → ℕ → Outcome D → ℕ → Regs → Type 0
-Leads d row m k o j q = ((j ≡ k + 1) × FitsIn d row m o.next q) ⊎ ((j ≡ o.to) × FitsIn d row m o.jump q)
+Leads d row m k o j q = ((j ≡ k + 1) × FitsIn d row m o.next q) ⊎ ((j ≡ place_of o.jump) × FitsIn d row m (change_of o.jump) q)
 
 pub record Safe {D : Type 0} (d : Ghosts D) (p : List Record) (row : List D) (m : Mark) (k : ℕ) (r : Regs) (i : Item) (o : Outcome D) : Type 0 where
   pub moves : Moves p k r i
   pub leads : (j : ℕ) (q : Regs) → Does p k r j q i → Leads d row m k o j q
   pub gives : (w : ℕ) → Gives r w i → Word w × HoldsIn d.holds o.answer w
+
+-- a change that tells the truth tells it where a jump takes it
+jump-fits : {D : Type 0} (d : Ghosts D) (row : List D) (m : Mark) (to : ℕ) (o : Option (Change D)) (j : ℕ) (q : Regs) → j ≡ to → FitsIn d row m o q → (j ≡ place_of (jump_to to o)) × FitsIn d row m (change_of (jump_to to o)) q
+jump-fits d row m to None j q e f = absurd f
+jump-fits d row m to (Some c) j q e f = (e, f)
 
 -- only `ret` gives a word
 abbrev Returning : Item → Type 0
@@ -163,10 +170,11 @@ module _ {D : Type 0} (d : Ghosts D) (laws : Lawful d) where
         (cases_Bool (is_same l s))
 
     abbrev branched : Condition → ℕ → Operand → ℕ → Outcome D
-    branched c l s to = record { report = None; next = branch_side d None (opposite (relation_of c)) l s row; to = to; jump = branch_side d None (relation_of c) l s row; answer = None }
+    branched c l s to = record { report = None; next = branch_side d None (opposite (relation_of c)) l s row; jump = jump_to to (branch_side d None (relation_of c) l s row); answer = None }
 
     branch_leads : (c : Condition) (l : ℕ) (s : Operand) (to : ℕ) → Has d (cell d row l) (r l) → Has d (amount d row s) (value r s) → (j : ℕ) (q : Regs) → Does p k r j q (Instruction (Branch c l s to)) → Leads d row m k (branched c l s to) j q
-    branch_leads c l s to a h j q (taken x y ex ey re ej eq) = inr (ej, subst (FitsIn d row m (branch_side d None (relation_of c) l s row)) (sym eq) (side_fits (relation_of c) l s x y a h ex ey re))
+    branch_leads c l s to a h j q (taken x y ex ey re ej eq) =
+        inr (jump-fits d row m to (branch_side d None (relation_of c) l s row) j q ej (subst (FitsIn d row m (branch_side d None (relation_of c) l s row)) (sym eq) (side_fits (relation_of c) l s x y a h ex ey re)))
     branch_leads c l s to a h j q (missed x y ex ey re ej eq) = inl (ej, subst (FitsIn d row m (branch_side d None (opposite (relation_of c)) l s row)) (sym eq) (side_fits (opposite (relation_of c)) l s x y a h ex ey (not_related c x y re)))
 
     related_or : (rel : Relation) (x y : ℕ) → Related rel x y ⊎ (Related rel x y → ⊥)
@@ -198,10 +206,10 @@ module _ {D : Type 0} (d : Ghosts D) (laws : Lawful d) where
     ret-leads : (o : Outcome D) (j : ℕ) (q : Regs) → Does p k r j q (Instruction Ret) → Leads d row m k o j q
     ret-leads o j q e = elim e [ ]
 
-    safe-ret : first_unset m (0 ∷ []) ≡ None → Safe d p row m k r (Instruction Ret) (record { report = None; next = None; to = 0; jump = None; answer = Some (cell d row 0) })
+    safe-ret : first_unset m (0 ∷ []) ≡ None → Safe d p row m k r (Instruction Ret) (record { report = None; next = None; jump = None; answer = Some (cell d row 0) })
     safe-ret none =
         let h = fit 0 (omega arith) (set_first m 0 [] none).0 in
-        record { moves = inl (h.word, ret h.is); leads = ret-leads (record { report = None; next = None; to = 0; jump = None; answer = Some (cell d row 0) }); gives = ret-gives h }
+        record { moves = inl (h.word, ret h.is); leads = ret-leads (record { report = None; next = None; jump = None; answer = Some (cell d row 0) }); gives = ret-gives h }
 
     -- ── any instruction ──
 
@@ -221,9 +229,9 @@ module _ {D : Type 0} (d : Ghosts D) (laws : Lawful d) where
     safe_item n (Instruction (Jump to)) v e = safe-jump to
     safe_item n (Instruction (Branch c l s to)) v e =
         let h = first-none d line row (first_unset m (l ∷ register_in s)) None e in
-        subst (λ o. Safe d p row m k r (Instruction (Branch c l s to)) (record { report = o; next = branch_side d o (opposite (relation_of c)) l s row; to = to; jump = branch_side d o (relation_of c) l s row; answer = None })) (sym e) (safe_branch c l s to v.0 v.1 h.0)
+        subst (λ o. Safe d p row m k r (Instruction (Branch c l s to)) (record { report = o; next = branch_side d o (opposite (relation_of c)) l s row; jump = jump_to to (branch_side d o (relation_of c) l s row); answer = None })) (sym e) (safe_branch c l s to v.0 v.1 h.0)
     safe_item n (Instruction Ret) v e =
         let h = first-none d line row (first_unset m (0 ∷ [])) None e in
-        subst (λ o. Safe d p row m k r (Instruction Ret) (record { report = o; next = None; to = 0; jump = None; answer = shown o (Some (cell d row 0)) None })) (sym e) (safe-ret h.0)
+        subst (λ o. Safe d p row m k r (Instruction Ret) (record { report = o; next = None; jump = None; answer = shown o (Some (cell d row 0)) None })) (sym e) (safe-ret h.0)
     safe_item n (Buffer size mode) v e = absurd v
     safe_item n Blank v e = absurd v

@@ -69,7 +69,7 @@ shown None x y = x
 shown (Some r) x y = y
 
 abbrev pub goes_on : {D : Type 0} → Option Report → Change D → Outcome D
-goes_on r c = record { report = r; next = Some c; to = 0; jump = None; answer = None }
+goes_on r c = record { report = r; next = Some c; jump = None; answer = None }
 
 -- the first of two, where there is one
 abbrev pub earlier : {X : Type 0} → Option X → Option X → Option X

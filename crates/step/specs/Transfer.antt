@@ -19,6 +19,7 @@ use Rattle.step.specs.declared.cause.Cause.{Cause}
 use Rattle.step.specs.declared.mark.Mark.{Mark}
 use Rattle.step.specs.declared.outcome.Change.{Change}
 use Rattle.step.specs.declared.outcome.Outcome.{Outcome}
+use Rattle.step.specs.declared.outcome.Jump.{Jump as Leap}
 use Rattle.step.specs.declared.outcome.Patch.{Patch}
 use Rattle.step.specs.declared.report.Report.{Report}
 use Rattle.step.specs.Needs.{divisor_cause, shift_cause, access_cause}
@@ -96,15 +97,20 @@ is_same l (Constant c) = false
 abbrev pub branch_side : {D : Type 0} → Ghosts D → Option Report → Relation → ℕ → Operand → List D → Option (Change D)
 branch_side d r rel l s row = shown r (cond (is_same l s) (Some unchanged) (side_of d rel l s row)) (Some unchanged)
 
+-- a change that a jump takes along, if the jump is taken at all
+abbrev pub jump_to : {D : Type 0} → ℕ → Option (Change D) → Option (Leap D)
+jump_to to None = None
+jump_to to (Some c) = Some (record { to = to; change = c })
+
 abbrev pub transfer : {D : Type 0} → Ghosts D → List Record → ℕ → Item → List D → Mark → Outcome D
 transfer d p line (Instruction (Mov t s)) row m = let r : Option Report = judged d p line (Instruction (Mov t s)) row m in goes_on r (patched t (shown r (amount d row s) d.every))
 transfer d p line (Instruction (Alu op t s)) row m = let r : Option Report = judged d p line (Instruction (Alu op t s)) row m in goes_on r (patched t (shown r (d.applied op (cell d row t) (amount d row s)) d.every))
 transfer d p line (Instruction (Load w t b s)) row m = goes_on (judged d p line (Instruction (Load w t b s)) row m) (patched t (d.under w))
 transfer d p line (Instruction (Store w b s t)) row m = goes_on (judged d p line (Instruction (Store w b s t)) row m) unchanged
-transfer d p line (Instruction (Jump to)) row m = record { report = None; next = None; to = to; jump = Some unchanged; answer = None }
+transfer d p line (Instruction (Jump to)) row m = record { report = None; next = None; jump = jump_to to (Some unchanged); answer = None }
 transfer d p line (Instruction (Branch c l s to)) row m =
     let r : Option Report = judged d p line (Instruction (Branch c l s to)) row m in
-    record { report = r; next = branch_side d r (opposite (relation_of c)) l s row; to = to; jump = branch_side d r (relation_of c) l s row; answer = None }
-transfer d p line (Instruction Ret) row m = let r : Option Report = judged d p line (Instruction Ret) row m in record { report = r; next = None; to = 0; jump = None; answer = shown r (Some (cell d row 0)) None }
-transfer d p line (Buffer size mode) row m = record { report = None; next = None; to = 0; jump = None; answer = None }
-transfer d p line Blank row m = record { report = None; next = None; to = 0; jump = None; answer = None }
+    record { report = r; next = branch_side d r (opposite (relation_of c)) l s row; jump = jump_to to (branch_side d r (relation_of c) l s row); answer = None }
+transfer d p line (Instruction Ret) row m = let r : Option Report = judged d p line (Instruction Ret) row m in record { report = r; next = None; jump = None; answer = shown r (Some (cell d row 0)) None }
+transfer d p line (Buffer size mode) row m = record { report = None; next = None; jump = None; answer = None }
+transfer d p line Blank row m = record { report = None; next = None; jump = None; answer = None }

@@ -11,6 +11,6 @@ mod transfer;
 
 pub use cause::Cause;
 pub use mark::Mark;
-pub use outcome::{Change, Outcome, Patch};
+pub use outcome::{Change, Jump, Outcome, Patch};
 pub use report::Report;
 pub use transfer::carry;

@@ -14,13 +14,19 @@ pub struct Change<D> {
     pub second: Option<Patch<D>>,
 }
 
-/// What an instruction makes of its row: a report, what goes on to the next instruction, what goes to the one at `to`,
+/// What a jump takes along, and where to.
+#[derive(Clone, Copy, PartialEq, Eq, Debug)]
+pub struct Jump<D> {
+    pub to: usize,
+    pub change: Change<D>,
+}
+
+/// What an instruction makes of its row: a report, what goes on to the next instruction, what goes elsewhere by a jump,
 /// and what it returns.
 #[derive(Clone, Copy, PartialEq, Eq, Debug)]
 pub struct Outcome<D> {
     pub report: Option<Report>,
     pub next: Option<Change<D>>,
-    pub to: usize,
-    pub jump: Option<Change<D>>,
+    pub jump: Option<Jump<D>>,
     pub answer: Option<D>,
 }

@@ -3,13 +3,13 @@ ghost use Rattle.rule.specs.declared.record.Item.TheVariants.{Instruction as Ins
 ghost use Rattle.rule.specs.declared.instruction.Instruction.TheVariants as instruction;
 ghost use Rattle.rule.specs.Instructions.{relation_of};
 ghost use Rattle.step.specs.Rows.{cell, amount, unchanged, patched, goes_on, shown};
-ghost use Rattle.step.specs.Transfer.{alu_cause, index_cause, judged, opposite as opposite_of, mirrored, side_of, is_same, patch_to, branch_side, transfer};
+ghost use Rattle.step.specs.Transfer.{alu_cause, index_cause, judged, opposite as opposite_of, mirrored, side_of, is_same, patch_to, branch_side, jump_to, transfer};
 
 use super::before::Before;
 use super::cause::Cause;
 use super::judge::{judge_access, judge_divisor, judge_shift};
 use super::mark::Mark;
-use super::outcome::{Change, Outcome, Patch};
+use super::outcome::{Change, Jump, Outcome, Patch};
 use super::report::Report;
 use domain::Domain;
 use machine::size_of;
@@ -106,7 +106,6 @@ fn go_on<D: Domain>(report: Option<Report>, change: Change<D>) -> Outcome<D>
     Outcome {
         report,
         next: Some(change),
-        to: 0,
         jump: None,
         answer: None,
     }
@@ -213,42 +212,35 @@ fn branch<D: Domain>(
     to: usize,
     before: Before<'_, D>,
 ) -> Outcome<D>
-    ensures { result ≡ record { report = report; next = branch_side D.Domain report (opposite_of (relation_of condition)) left right before.entry.row.now; to = to; jump = branch_side D.Domain report (relation_of condition) left right before.entry.row.now; answer = None } }
+    ensures { result ≡ record { report = report; next = branch_side D.Domain report (opposite_of (relation_of condition)) left right before.entry.row.now; jump = jump_to to (branch_side D.Domain report (relation_of condition) left right before.entry.row.now); answer = None } }
 {
     let relation = Relation::from(condition);
     Outcome {
         report,
         next: branch_side(report, opposite(relation), left, right, before),
-        to,
-        jump: branch_side(report, relation, left, right, before),
+        jump: branch_side(report, relation, left, right, before).map(|change| Jump { to, change }),
         answer: None,
     }
 }
 
-/// What goes nowhere and returns nothing, but for what is given.
-fn stop<D: Domain>(
-    report: Option<Report>,
-    to: usize,
-    jump: Option<Change<D>>,
-    answer: Option<D>,
-) -> Outcome<D>
-    ensures { result ≡ record { report = report; next = None; to = to; jump = jump; answer = answer } }
+/// What goes on nowhere, but for what is given.
+fn stop<D: Domain>(report: Option<Report>, jump: Option<Jump<D>>, answer: Option<D>) -> Outcome<D>
+    ensures { result ≡ record { report = report; next = None; jump = jump; answer = answer } }
 {
     Outcome {
         report,
         next: None,
-        to,
         jump,
         answer,
     }
 }
 
 fn ret<D: Domain>(report: Option<Report>, before: Before<'_, D>) -> Outcome<D>
-    ensures { result ≡ record { report = report; next = None; to = 0; jump = None; answer = shown report (Some (cell D.Domain before.entry.row.now 0)) None } }
+    ensures { result ≡ record { report = report; next = None; jump = None; answer = shown report (Some (cell D.Domain before.entry.row.now 0)) None } }
 {
     match report {
-        Some(_) => stop(report, 0, None, None),
-        None => stop(report, 0, None, Some(before.cell(0))),
+        Some(_) => stop(report, None, None),
+        None => stop(report, None, Some(before.cell(0))),
     }
 }
 
@@ -280,7 +272,10 @@ fn carry_out<D: Domain>(
             Change::one(target, D::low(width)),
         ),
         Instruction::Store { .. } => go_on(report, Change::none()),
-        Instruction::Jump { to } => stop(report, to, Some(Change::none()), None),
+        Instruction::Jump { to } => {
+            let change = Change::none();
+            stop(report, Some(Jump { to, change }), None)
+        }
         Instruction::Branch {
             condition,
             left,
@@ -305,6 +300,6 @@ pub fn carry<D: Domain>(
         Item::Instruction(instruction) => {
             carry_out(table, line, instruction, Before { row, mark })
         }
-        Item::Buffer { .. } | Item::Blank => stop(None, 0, None, None),
+        Item::Buffer { .. } | Item::Blank => stop(None, None, None),
     }
 }
