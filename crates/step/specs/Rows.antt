@@ -1,8 +1,5 @@
 -- A row: what is known of the eight registers before an instruction. And what goes on from it.
-use Rattle.std.specs.Prelude.{ℕ, ◌<◌, Bool, false, cond, List, [], ◌∷◌, Some, None, Option, slice_index_or}
-use Rattle.rule.specs.declared.record.Item.{Item}
-use Rattle.rule.specs.declared.record.Item.TheVariants.{Blank, Buffer, Instruction}
-use Rattle.rule.specs.declared.instruction.Instruction.TheVariants.{Mov, Alu, Load, Store, Jump, Branch, Ret}
+use Rattle.std.specs.Prelude.{ℕ, Bool, false, cond, List, [], ◌∷◌, Some, None, Option, slice_index_or}
 use Rattle.rule.specs.declared.instruction.Operand.{Operand}
 use Rattle.rule.specs.declared.instruction.Operand.TheVariants.{Register, Constant}
 use Rattle.range.specs.Ranges.{least, most}

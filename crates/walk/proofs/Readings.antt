@@ -12,6 +12,7 @@ use Rattle.machine.specs.Valid.{is_ret, Valid}
 use Rattle.step.specs.declared.mark.Mark.{Mark}
 use Rattle.step.specs.declared.outcome.Outcome.{Outcome}
 use Rattle.step.specs.declared.report.Report.{Report}
+use Rattle.step.specs.Changes.{change_of, place_of}
 use Rattle.step.specs.Lacks.{Lacks, First}
 use Rattle.step.specs.Rows.{cell, shown}
 use Rattle.step.specs.Transfer.{judged, transfer}
@@ -129,8 +130,8 @@ module _ {D : Type 0} (d : Ghosts D) (p : List Record) where
               answered =
                   (λ i. joined_in d (was.answered i) (answer-here i))
                   ∙ sym (answers_same s.rows t.rows s.marks t.marks (suc n) (λ k h. row_kept d p valid n inside s k (omega arith)) (λ k h. mark-kept d p valid n inside s k (omega arith)));
-              rows_kept = sent-rows-rest d (code_length p) n o.to rows-mid marks-mid o.jump w.1 ∙ sent-rows-rest d (code_length p) n (n + 1) s.rows s.marks o.next w.0 ∙ was.rows_kept;
-              marks_kept = sent-marks-rest d (code_length p) n o.to rows-mid marks-mid o.jump w.1 ∙ sent-marks-rest d (code_length p) n (n + 1) s.rows s.marks o.next w.0 ∙ was.marks_kept;
+              rows_kept = sent-rows-rest d (code_length p) n (place_of o.jump) rows-mid marks-mid (change_of o.jump) w.1 ∙ sent-rows-rest d (code_length p) n (n + 1) s.rows s.marks o.next w.0 ∙ was.rows_kept;
+              marks_kept = sent-marks-rest d (code_length p) n (place_of o.jump) rows-mid marks-mid (change_of o.jump) w.1 ∙ sent-marks-rest d (code_length p) n (n + 1) s.rows s.marks o.next w.0 ∙ was.marks_kept;
               reports_kept = noted-rest o.report s.reports reports₀ s.count was.reports_kept;
             }
 

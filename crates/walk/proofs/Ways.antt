@@ -9,24 +9,18 @@ use Rattle.machine.specs.Tables.{code_length, item_at}
 use Rattle.machine.specs.Valid.{is_ret, ValidItem, Valid}
 use Rattle.domain.specs.declared.domain.Domain.{Ghosts}
 use Rattle.step.specs.declared.mark.Mark.{Mark}
-use Rattle.step.specs.Rows.{RegistersValid}
-use Rattle.step.specs.Transfer.{transfer}
+use Rattle.step.specs.declared.outcome.Change.{Change}
+use Rattle.step.specs.Changes.{change_of, place_of}
+use Rattle.step.specs.Transfer.{jump_to, transfer}
 use Rattle.walk.specs.Walk.{Present, Ways}
-
-pub registers_of : (p : List Record) (n k : ℕ) (i : Item) → ValidItem p n k i → RegistersValid i
-registers_of p n k (Instruction (Mov t s)) v = v
-registers_of p n k (Instruction (Alu op t s)) v = v
-registers_of p n k (Instruction (Load w t b s)) v = (v.0, v.2)
-registers_of p n k (Instruction (Store w b s t)) v = (v.2, v.3)
-registers_of p n k (Instruction (Branch c l s to)) v = (v.0, v.1)
-registers_of p n k (Instruction (Jump to)) v = tt
-registers_of p n k (Instruction Ret) v = tt
-registers_of p n k (Buffer size mode) v = tt
-registers_of p n k Blank v = tt
 
 present : {X : Type 0} (o : Option X) {P : Type 0} → P → Present o P
 present None h = tt
 present (Some x) h = h
+
+present-jump : {D : Type 0} (o : Option (Change D)) {n k to : ℕ} → (k < to) × (to < n) → Present (change_of (jump_to to o)) ((k < place_of (jump_to to o)) × (place_of (jump_to to o) < n))
+present-jump None h = tt
+present-jump (Some c) h = h
 
 -- the last instruction is `ret`, so every other has one after it
 onward : (p : List Record) (k : ℕ) → Valid p → k < code_length p → is_ret (item_at p k) ≡ false → k + 1 < code_length p
@@ -42,7 +36,7 @@ module _ {D : Type 0} (d : Ghosts D) (p : List Record) (line : ℕ) (row : List 
   ways_item n a k (Instruction (Alu op t s)) le v on = let h = on refl in (omega arith, tt)
   ways_item n a k (Instruction (Load w t b s)) le v on = let h = on refl in (omega arith, tt)
   ways_item n a k (Instruction (Store w b s t)) le v on = let h = on refl in (omega arith, tt)
-  ways_item n a k (Instruction (Branch c l s to)) le v on = let next : k + 1 < a = let h = on refl in omega arith in let jump : (k < to) × (to < a) = (v.2, omega (arith, v.3)) in (present _ next, present _ jump)
+  ways_item n a k (Instruction (Branch c l s to)) le v on = let next : k + 1 < a = let h = on refl in omega arith in let jump : (k < to) × (to < a) = (v.2, omega (arith, v.3)) in (present _ next, present-jump _ jump)
   ways_item n a k (Instruction (Jump to)) le v on = (tt, (v.0, omega (arith, v.1)))
   ways_item n a k (Instruction Ret) le v on = (tt, tt)
   ways_item n a k (Buffer size mode) le v on = (tt, tt)

@@ -18,6 +18,7 @@ use Rattle.machine.proofs.Moving.{forward, not_stuck}
 use Rattle.step.specs.declared.mark.Mark.{Mark}
 use Rattle.step.specs.declared.outcome.Outcome.{Outcome}
 use Rattle.step.specs.declared.report.Report.{Report}
+use Rattle.step.specs.Changes.{change_of, place_of}
 use Rattle.step.specs.Rows.{cell, is_set}
 use Rattle.step.specs.Transfer.{judged, transfer}
 use Rattle.step.proofs.Fits.{Has, Fits, FitsIn}
@@ -74,7 +75,7 @@ module _ {D : Type 0} (d : Ghosts D) (p : List Record) (valid : Valid p) (n : �
   abbrev pub marks₁ : List Mark
   marks₁ = sent_marks n (n + 1) out.next s.marks
 
-  pub ways : Onward (code_length p) n (n + 1) out.next × Onward (code_length p) n out.to out.jump
+  pub ways : Onward (code_length p) n (n + 1) out.next × Onward (code_length p) n (place_of out.jump) (change_of out.jump)
   ways =
       let w = ways_of d p (code_at p n).line (row_at s.rows n) (mark_at s.marks n) (code_length p) n (omega arith) valid inside in
       (present-map out.next (λ h. (omega arith, h)) w.0, w.1)
@@ -82,19 +83,19 @@ module _ {D : Type 0} (d : Ghosts D) (p : List Record) (valid : Valid p) (n : �
   -- what stood at the instruction and before it stays
   pub row_kept : (k : ℕ) → k ≤ n → row_at (applied d n out s).rows k ≡ row_at s.rows k
   unfolding applied
-  row_kept k h = sent-row d (code_length p) n out.to rows₁ marks₁ out.jump k h ways.1 ∙ sent-row d (code_length p) n (n + 1) s.rows s.marks out.next k h ways.0
+  row_kept k h = sent-row d (code_length p) n (place_of out.jump) rows₁ marks₁ (change_of out.jump) k h ways.1 ∙ sent-row d (code_length p) n (n + 1) s.rows s.marks out.next k h ways.0
 
   pub mark-kept : (k : ℕ) → k ≤ n → mark_at (applied d n out s).marks k ≡ mark_at s.marks k
   unfolding applied
-  mark-kept k h = sent-mark d (code_length p) n out.to rows₁ marks₁ out.jump k h ways.1 ∙ sent-mark d (code_length p) n (n + 1) s.rows s.marks out.next k h ways.0
+  mark-kept k h = sent-mark d (code_length p) n (place_of out.jump) rows₁ marks₁ (change_of out.jump) k h ways.1 ∙ sent-mark d (code_length p) n (n + 1) s.rows s.marks out.next k h ways.0
 
   pub rows_long : length (applied d n out s).rows ≡ length s.rows
   unfolding applied
-  rows_long = sent-rows-long d (code_length p) n out.to rows₁ marks₁ out.jump ∙ sent-rows-long d (code_length p) n (n + 1) s.rows s.marks out.next
+  rows_long = sent-rows-long d (code_length p) n (place_of out.jump) rows₁ marks₁ (change_of out.jump) ∙ sent-rows-long d (code_length p) n (n + 1) s.rows s.marks out.next
 
   pub marks-long : length (applied d n out s).marks ≡ length s.marks
   unfolding applied
-  marks-long = sent-marks-long d (code_length p) n out.to rows₁ marks₁ out.jump ∙ sent-marks-long d (code_length p) n (n + 1) s.rows s.marks out.next
+  marks-long = sent-marks-long d (code_length p) n (place_of out.jump) rows₁ marks₁ (change_of out.jump) ∙ sent-marks-long d (code_length p) n (n + 1) s.rows s.marks out.next
 
 module _ {D : Type 0} (d : Ghosts D) (laws : Lawful d) (p : List Record) (valid : Valid p) where
   module _ (n : ℕ) (inside : n < code_length p) (s : Sheet D) (done : Done d p n s) where
@@ -110,7 +111,7 @@ module _ {D : Type 0} (d : Ghosts D) (laws : Lawful d) (p : List Record) (valid 
     abbrev m₁ : List Mark
     m₁ = marks₁ d p valid n inside s
 
-    abbrev on : Onward (code_length p) n (n + 1) o.next × Onward (code_length p) n o.to o.jump
+    abbrev on : Onward (code_length p) n (n + 1) o.next × Onward (code_length p) n (place_of o.jump) (change_of o.jump)
     on = ways d p valid n inside s
 
     long₁ : 8 * code_length p ≤ length r₁
@@ -122,7 +123,7 @@ module _ {D : Type 0} (d : Ghosts D) (laws : Lawful d) (p : List Record) (valid 
     grows : (j : ℕ) (r : Regs) → At d s.rows s.marks j r → At d t.rows t.marks j r
     unfolding applied
     grows j r a =
-        at_old d (code_length p) n o.to r₁ m₁ laws long₁ wide₁ o.jump j r on.1
+        at_old d (code_length p) n (place_of o.jump) r₁ m₁ laws long₁ wide₁ (change_of o.jump) j r on.1
         (at_old d (code_length p) n (n + 1) s.rows s.marks laws done.long done.wide o.next j r on.0 a)
 
     back : (j : ℕ) (r : Regs) → j ≤ n → At d t.rows t.marks j r → At d s.rows s.marks j r
@@ -139,14 +140,14 @@ module _ {D : Type 0} (d : Ghosts D) (laws : Lawful d) (p : List Record) (valid 
     unfolding applied
     led j q (inl (e, fit)) =
         subst (λ x. At d t.rows t.marks x q) (sym e)
-        (at_old d (code_length p) n o.to r₁ m₁ laws long₁ wide₁ o.jump (n + 1) q on.1
+        (at_old d (code_length p) n (place_of o.jump) r₁ m₁ laws long₁ wide₁ (change_of o.jump) (n + 1) q on.1
         (at_new d (code_length p) n (n + 1) s.rows s.marks laws done.long done.wide o.next q on.0 fit))
     led j q (inr (e, fit)) =
         let row = sent-row d (code_length p) n (n + 1) s.rows s.marks o.next n (omega arith) on.0 in
         let mark = sent-mark d (code_length p) n (n + 1) s.rows s.marks o.next n (omega arith) on.0 in
         subst (λ x. At d t.rows t.marks x q) (sym e)
-        (at_new d (code_length p) n o.to r₁ m₁ laws long₁ wide₁ o.jump q on.1
-        (subst (λ x. FitsIn d x (mark_at m₁ n) o.jump q) (sym row) (subst (λ m. FitsIn d (row_at s.rows n) m o.jump q) (sym mark) fit)))
+        (at_new d (code_length p) n (place_of o.jump) r₁ m₁ laws long₁ wide₁ (change_of o.jump) q on.1
+        (subst (λ x. FitsIn d x (mark_at m₁ n) (change_of o.jump) q) (sym row) (subst (λ m. FitsIn d (row_at s.rows n) m (change_of o.jump) q) (sym mark) fit)))
 
     nothing : t.count ≡ 0 → (o.report ≡ None) × (s.count ≡ 0)
     unfolding applied

@@ -9,7 +9,7 @@ use Rattle.step.specs.declared.mark.Mark.{Mark}
 use Rattle.step.specs.declared.outcome.Change.{Change}
 use Rattle.step.specs.declared.outcome.Outcome.{Outcome}
 use Rattle.step.specs.declared.report.Report.{Report}
-use Rattle.step.specs.Changes.{changed_value, changed_set}
+use Rattle.step.specs.Changes.{changed_value, changed_set, change_of, place_of}
 use Rattle.step.specs.Rows.{is_set}
 use Rattle.step.specs.Transfer.{transfer}
 
@@ -98,11 +98,11 @@ returned d o s = record { rows = s.rows; marks = s.marks; reports = s.reports; c
 
 -- the fall-through comes first, then the jump
 unfoldable pub applied : {D : Type 0} → Ghosts D → ℕ → Outcome D → Sheet D → Sheet D
-applied d k o s = returned d o.answer (noted o.report (sent d k o.to o.jump (sent d k (k + 1) o.next s)))
+applied d k o s = returned d o.answer (noted o.report (sent d k (place_of o.jump) (change_of o.jump) (sent d k (k + 1) o.next s)))
 
 -- where an outcome leads, from instruction k of n: on to the next, or to a later one
 abbrev pub Ways : {D : Type 0} → ℕ → ℕ → Outcome D → Type 0
-Ways n k o = Present o.next (k + 1 < n) × Present o.jump ((k < o.to) × (o.to < n))
+Ways n k o = Present o.next (k + 1 < n) × Present (change_of o.jump) ((k < place_of o.jump) × (place_of o.jump < n))
 
 -- what the instruction in record r, at k, makes of its row and mark
 abbrev pub outcome_at : {D : Type 0} → Ghosts D → List Record → Record → ℕ → List D → List Mark → Outcome D

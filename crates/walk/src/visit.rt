@@ -1,8 +1,7 @@
 ghost use Rattle.std.specs.Prelude.{◌≡◌, ◌+◌, ◌*◌, ◌/◌, ◌<◌, ◌≤◌, length};
-ghost use Rattle.step.specs.Rows.{RegistersValid};
 ghost use Rattle.walk.specs.Walk.{sheet, Ways, noted_reports, noted_count, joined_in, applied, outcome_at, visited};
 
-use super::send::send;
+use super::send::{leap, send};
 use super::tally::Tally;
 use domain::Domain;
 use rule::Record;
@@ -50,7 +49,7 @@ fn follow<D: Domain>(
     ensures sheet { sheet rows.new marks.new reports.new result.count result.answer ≡ applied D.Domain at out (sheet rows.old marks.old reports.old tally.count tally.answer) }
 {
     send(rows, marks, at, at + 1, out.next);
-    send(rows, marks, at, out.to, out.jump);
+    leap(rows, marks, at, out.jump);
     let count = note(reports, tally.count, out.report);
     let answer = join_answers(tally.answer, out.answer);
     Tally { count, answer }
@@ -66,7 +65,6 @@ pub fn visit<D: Domain>(
     reports: &mut [Report],
     tally: Tally<D>,
 ) -> Tally<D>
-    requires registers { RegistersValid code.item }
     requires ways { Ways (length marks.old) at (outcome_at D.Domain table.now code at rows.old marks.old) }
     requires rows { Ways (length rows.old / 8) at (outcome_at D.Domain table.now code at rows.old marks.old) }
     requires few { (at < length marks.old) × (8 * at + 8 ≤ length rows.old) }

@@ -1,4 +1,4 @@
-use Rattle.std.proofs.Common.{◌≡◌, ℕ, ◌+◌, ◌<◌, List, [], ◌∷◌, ◌++◌, length, get_or, drop, set, replicate, sym, ap, ◌∙◌, arith}
+use Rattle.std.proofs.Common.{◌≡◌, ℕ, ◌+◌, ◌*◌, ◌<◌, List, [], ◌∷◌, ◌++◌, length, get_or, take, drop, set, replicate, sym, ap, ◌∙◌, arith}
 use Rattle.std.proofs.lemmas.List.{drop_more, set_at, length-replicate, append_assoc, replicate_more}
 use Rattle.walk.proofs.flow.open.Goals as goal
 
@@ -9,6 +9,7 @@ filled_more xs k y lt =
     ∙ sym (append_assoc (replicate k y) (y ∷ []) (drop (k + 1) xs))
     ∙ ap (λ l. l ++ drop (k + 1) xs) (replicate_more k y)
 
-pub loop-k-preserved : goal.loop-k-preserved
-loop-k-preserved g c =
-    (λ i. set (c.loop-k.invariant i) c.loop-k.k (c.any.ensures i)) ∙ filled_more c.args.rows.now c.loop-k.k g.D.Domain.every (omega arith)
+pub loop-value-preserved : goal.loop-value-preserved
+loop-value-preserved g c =
+    (λ i. set (c.loop-value.invariant i) c.loop-value.value-index (c.any.ensures i))
+    ∙ filled_more (take (8 * c.args.count) c.args.rows.now) c.loop-value.value-index g.D.Domain.every (omega (arith, c.loop-value.auto.value-items, c.loop-value-test.true))
