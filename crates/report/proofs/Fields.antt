@@ -1,18 +1,17 @@
--- A line, field by field from its end.
-use Rattle.std.proofs.Common.{◌≡◌, ℕ, ◌+◌, ◌*◌, ◌≤◌, List, [], ◌∷◌, ◌++◌, length, drop, Option, refl}
+-- A line, field by field.
+use Rattle.std.proofs.Common.{◌≡◌, ℕ, ◌+◌, ◌*◌, ◌≤◌, List, [], ◌∷◌, ◌++◌, length, codes, Option, refl, ap}
 use Rattle.report.specs.Lines.{field_text, line_text}
 
--- the byte behind a field that these follow
-abbrev pub behind : List (Option ℕ) → ℕ
-behind [] = 10
-behind (f ∷ fs) = 32
+-- what follows the first field: each further one behind a space, and the line feed
+abbrev pub rest_text : List (Option ℕ) → List ℕ
+rest_text [] = codes "\n"
+rest_text (f ∷ fs) = codes " " ++ (field_text f ++ rest_text fs)
 
-pub line-more : (f : Option ℕ) (fs : List (Option ℕ)) → line_text (f ∷ fs) ≡ field_text f ++ (behind fs ∷ line_text fs)
-line-more f [] = refl
-line-more f (g ∷ fs) = refl
+pub line_first : (f : Option ℕ) (fs : List (Option ℕ)) → line_text (f ∷ fs) ≡ field_text f ++ rest_text fs
+line_first f [] = refl
+line_first f (g ∷ fs) = ap (λ t. field_text f ++ (codes " " ++ t)) (line_first g fs)
 
--- the bytes w are the line from the field at i on, b is the byte before them, and there is room for the fields below i
-pub record LineFrom (fs : List (Option ℕ)) (i b : ℕ) (w : List ℕ) : Type 0 where
-  pub text : w ≡ line_text (drop i fs)
-  pub byte : b ≡ behind (drop i fs)
-  pub room : length w + 21 * i ≤ 105
+-- the bytes so far and those of the fields to come are the line, and there is room for these
+pub record LineSoFar (bytes : List ℕ) (left : List (Option ℕ)) (line : List ℕ) : Type 0 where
+  pub text : bytes ++ rest_text left ≡ line
+  pub room : length bytes + 21 * length left ≤ 104

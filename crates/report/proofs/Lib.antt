@@ -1,2 +1,2 @@
-mod Fields
 mod Rows
+mod Fields

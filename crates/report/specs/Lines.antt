@@ -1,6 +1,5 @@
--- A line of fields, and what is written of one.
-use Rattle.std.specs.Prelude.{ℕ, List, [], ◌∷◌, ◌++◌, drop, Some, None, codes, decimal, Option}
-use Rattle.report.specs.declared.line.Line.{Line}
+-- A line of fields.
+use Rattle.std.specs.Prelude.{ℕ, List, [], ◌∷◌, ◌++◌, Some, None, codes, decimal, Option}
 
 -- a number, or a dash where there is none
 abbrev pub field_text : Option ℕ → List ℕ
@@ -17,7 +16,3 @@ line_text (f ∷ (g ∷ fs)) = field_text f ++ (codes " " ++ line_text (g ∷ fs
 abbrev pub rows_text : {R : Type 0} → (R → List (Option ℕ)) → List R → List ℕ
 rows_text fields [] = []
 rows_text fields (r ∷ rs) = line_text (fields r) ++ rows_text fields rs
-
--- what is written of a line
-abbrev pub written : Line → List ℕ
-written l = drop l.start l.bytes

@@ -2,7 +2,7 @@ ghost use Rattle.std.specs.Prelude.{◌≡◌};
 ghost use Rattle.report.specs.Printing.{output_after, printed};
 ghost use Rattle.report.specs.Texts.{fault_fields, fault_text};
 
-use super::line::Line;
+use super::line::{Line, line_of};
 use super::print::print;
 use super::refusal::PrintRefusal;
 use super::row::Row;
@@ -13,7 +13,7 @@ impl Row for ProgramFault {
 
     fn line(&self) -> Line {
         let refusal = self.refusal();
-        Line::of(&[
+        line_of(&[
             Some(u64::from(refusal.number)),
             Some(refusal.line as u64),
             Some(refusal.place as u64),

@@ -17,7 +17,7 @@ pub fn print<R: Row>(heading: &[u8], rows: &[R], output: &mut [u8]) -> Result<us
     let mut at = put(output, 0, heading);
     for row in rows {
         let line = row.line();
-        at = put(output, at, line.text());
+        at = put(output, at, line.as_str().as_bytes());
     }
     Ok(at)
 }
@@ -32,7 +32,7 @@ fn has_room<R: Row>(heading: &[u8], rows: &[R], room: usize) -> bool
     };
     for row in rows {
         let line = row.line();
-        let Some(less) = left.checked_sub(line.text().len()) else {
+        let Some(less) = left.checked_sub(line.as_str().len()) else {
             return false;
         };
         left = less;

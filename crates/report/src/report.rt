@@ -2,7 +2,7 @@ ghost use Rattle.std.specs.Prelude.{◌≡◌};
 ghost use Rattle.report.specs.Printing.{output_after, printed};
 ghost use Rattle.report.specs.Texts.{report_fields, reports_text};
 
-use super::line::Line;
+use super::line::{Line, line_of};
 use super::print::print;
 use super::refusal::PrintRefusal;
 use super::row::Row;
@@ -12,11 +12,8 @@ impl Row for Report {
     ghost fields = { report_fields };
 
     fn line(&self) -> Line {
-        let register = match self.register {
-            Some(register) => Some(u64::from(register)),
-            None => None,
-        };
-        Line::of(&[
+        let register = self.register.map(u64::from);
+        line_of(&[
             Some(self.line as u64),
             Some(u64::from(self.cause.number())),
             register,

@@ -1,5 +1,5 @@
 ghost use Rattle.std.specs.Prelude.{◌≡◌, ℕ, List, Option};
-ghost use Rattle.report.specs.Lines.{line_text, written};
+ghost use Rattle.report.specs.Lines.{line_text};
 
 use super::line::Line;
 
@@ -9,5 +9,5 @@ pub trait Row {
     ghost fields: { Self → List (Option ℕ) };
 
     fn line(&self) -> Line
-        ensures { written result ≡ line_text (fields self.now) };
+        ensures { result.bytes ≡ line_text (fields self.now) };
 }

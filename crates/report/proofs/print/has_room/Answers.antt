@@ -16,12 +16,12 @@ loop-row-init g c = begun _ _ _ _ c.in-Some.ensures
 
 pub returns-in_default-checked_sub : goal.returns-in_default-checked_sub
 returns-in_default-checked_sub g c =
-    let more = rows_more g.R.Row.fields c.args.rows.now c.loop-row.row-index (omega arith) c.row-item.is c.text.ensures c.line-line.ensures in
+    let more = rows_more g.R.Row.fields c.args.rows.now c.loop-row.row-index (omega arith) c.row-item.is c.as_str.ensures.value c.line-line.ensures in
     lt-false _ _ (omega (arith, c.loop-row.invariant, c.in_default-checked_sub.ensures, simp length-append at (ap length more)))
 
 pub loop-row-preserved : goal.loop-row-preserved
 loop-row-preserved g c =
-    let more = rows_more g.R.Row.fields c.args.rows.now c.loop-row.row-index (omega arith) c.row-item.is c.text.ensures c.line-line.ensures in
+    let more = rows_more g.R.Row.fields c.args.rows.now c.loop-row.row-index (omega arith) c.row-item.is c.as_str.ensures.value c.line-line.ensures in
     omega (arith, c.loop-row.invariant, c.in-Some-checked_sub.ensures, simp length-append at (ap length more))
 
 pub returns : goal.returns

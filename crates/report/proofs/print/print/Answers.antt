@@ -33,13 +33,13 @@ loop-row-init g c = record { front = ap (λ front. front ++ rows_text g.R.Row.fi
 
 pub put-at-requires-in-loop-row : goal.put-at-requires-in-loop-row
 put-at-requires-in-loop-row g c =
-    let more = rows_more g.R.Row.fields c.args.rows.now c.loop-row.row-index (omega arith) c.row-item.is c.text.ensures c.line-line.ensures in
+    let more = rows_more g.R.Row.fields c.args.rows.now c.loop-row.row-index (omega arith) c.row-item.is (c.as_bytes.ensures.value ∙ c.as_str.ensures.value) c.line-line.ensures in
     omega (arith, c.loop-row.invariant.total, true-leb _ _ c.if-not-has_room.ensures, simp length-append at (ap length more))
 
 pub loop-row-preserved : goal.loop-row-preserved
 loop-row-preserved g c =
     one_more _ _ _ _ _ _ _ _ _
-    (rows_more g.R.Row.fields c.args.rows.now c.loop-row.row-index (omega arith) c.row-item.is c.text.ensures c.line-line.ensures)
+    (rows_more g.R.Row.fields c.args.rows.now c.loop-row.row-index (omega arith) c.row-item.is (c.as_bytes.ensures.value ∙ c.as_str.ensures.value) c.line-line.ensures)
     c.loop-row.invariant c.put-at-in-loop-row.ensures.end c.put-at-in-loop-row.ensures.front c.put-at-in-loop-row.ensures.back
 
 pub returns : goal.returns
