@@ -57,12 +57,8 @@ module _ {A B : Type 0} (a : Ghosts A) (b : Ghosts B) where
         met_holds p.first (b.absorbed p.second (a.told p.first)) w hw h.0
         (absorb_b p.second (a.told p.first) w hw h.1 (met_a p.first w hw h.0))
 
-    kept_of : (o : Option (Product A B)) (p : Product A B) (w : ℕ) → Both a b p w → HoldsIn (Both a b) o w → Both a b (unwrap_or o p) w
-    kept_of None p w h k = h
-    kept_of (Some q) p w h k = k
-
     kept-holds : (p : Product A B) (w : ℕ) → Word w → Both a b p w → Both a b (kept a b p) w
-    kept-holds p w hw h = kept_of (reduced a b p) p w h (reduced-holds p w hw h)
+    kept-holds p w hw h = held-or (Both a b) (reduced a b p) p w (reduced-holds p w hw h)
 
     then-holds : (o : Option (Product A B)) (w : ℕ) → Word w → HoldsIn (Both a b) o w → HoldsIn (Both a b) (option_and_then (reduced a b) o) w
     then-holds o w hw h = onward-holds (Both a b) (reduced a b) w o h (λ p hp. reduced-holds p w hw hp)
