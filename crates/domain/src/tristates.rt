@@ -13,6 +13,8 @@ use tristate::Tristate;
 use words::{Operation, Relation, Width};
 
 /// The formula of the operation.
+// A function of its own: were the match in `of`, each of its arms would owe by itself that the
+// answer is the smallest.
 fn computed(operation: Operation, a: Tristate, b: Tristate) -> Tristate
     ensures { result ≡ applied operation a b }
 {

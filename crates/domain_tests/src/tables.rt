@@ -42,6 +42,8 @@ pub struct Held<D> {
     pub answer: bool,
 }
 
+// The rows are written out, since the value of a static may call no function.
+
 /// The smallest answers, worked out word by word; some operands share bits between value and mask.
 pub static BITS: [Applied<Tristate>; 31] = [
     Applied {

@@ -135,6 +135,7 @@ impl Range {
     }
 
     /// From the least word that `bits` holds to the greatest.
+    // No `From`, since the words are not the same: those between that `bits` does not hold come in.
     pub fn reach(bits: Tristate) -> Range
         ensures { result ≡ reach bits }
     {
@@ -145,6 +146,7 @@ impl Range {
     }
 
     /// The bits that the two ends share, and so every word between them.
+    // No `From`, since the words are not the same: those outside that share the bits come in.
     pub fn span(self) -> Tristate
         ensures { result ≡ span self }
     {
