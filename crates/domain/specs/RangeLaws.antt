@@ -3,7 +3,7 @@ use Rattle.std.proofs.Common.{ℕ, ◌^◌, ◌<◌, ◌⊎◌, Decides, arith, 
 use Rattle.domain.specs.declared.facts.Facts.{Facts}
 use Rattle.domain.specs.Answers.{range_absorbed, range_told}
 use Rattle.domain.specs.Facts.{Meets}
-use Rattle.domain.specs.Onward.{onward-holds, onward-within}
+use Rattle.domain.specs.Onward.{twice-holds, twice-within}
 use Rattle.range.specs.declared.Range.{Range}
 use Rattle.range.specs.Ranges.{Within, common, front, full, hull, member, only, reach}
 use Rattle.range.proofs.Laws.{common_keeps, common-within, reach-holds, span-holds}
@@ -32,10 +32,7 @@ told-met a w hw h = (span-holds a w hw h, omega arith)
 
 pub absorbed-holds : (a : Range) (f : Facts) (w : ℕ) → Word w → Within a w → Meets f w → HoldsIn Within (range_absorbed a f) w
 absorbed-holds a f w hw h m =
-    onward-holds Within (λ r. common r (reach f.bits)) w (common a f.range) (common_keeps a f.range w h m.1)
-    (λ r hr. common_keeps r (reach f.bits) w hr (reach-holds f.bits w hw m.0))
+    twice-holds Within common a f.range (reach f.bits) w (λ x y. common_keeps x y w) h m.1 (reach-holds f.bits w hw m.0)
 
 pub absorbed-within : (a : Range) (f : Facts) (w : ℕ) → Word w → HoldsIn Within (range_absorbed a f) w → Within a w
-absorbed-within a f w _ h =
-    (common-within a f.range w
-    (onward-within Within (λ r. common r (reach f.bits)) w (common a f.range) h (λ r hr. (common-within r (reach f.bits) w hr).0))).0
+absorbed-within a f w _ h = twice-within Within common a f.range (reach f.bits) w (λ x y. common-within x y w) h

@@ -4,7 +4,7 @@ use Rattle.std.proofs.lemmas.Bool.Decides.{Decides-eqb}
 use Rattle.domain.specs.declared.facts.Facts.{Facts}
 use Rattle.domain.specs.Answers.{bits_absorbed, bits_told}
 use Rattle.domain.specs.Facts.{Meets}
-use Rattle.domain.specs.Onward.{onward-holds, onward-within}
+use Rattle.domain.specs.Onward.{twice-holds, twice-within}
 use Rattle.range.specs.Ranges.{span}
 use Rattle.range.proofs.Laws.{reach-holds, span-holds}
 use Rattle.tristate.specs.declared.Tristate.{Tristate}
@@ -43,10 +43,7 @@ told-met a w hw h = (bits.reading-holds a w h, reach-holds a w hw h)
 
 pub absorbed-holds : (a : Tristate) (f : Facts) (w : ℕ) → Word w → Holds a w → Meets f w → HoldsIn Holds (bits_absorbed a f) w
 absorbed-holds a f w hw h m =
-    onward-holds Holds (λ t. common t (span f.range)) w (common a f.bits) (bits.common_keeps a f.bits w h m.0)
-    (λ t ht. bits.common_keeps t (span f.range) w ht (span-holds f.range w hw m.1))
+    twice-holds Holds common a f.bits (span f.range) w (λ x y. bits.common_keeps x y w) h m.0 (span-holds f.range w hw m.1)
 
 pub absorbed-within : (a : Tristate) (f : Facts) (w : ℕ) → Word w → HoldsIn Holds (bits_absorbed a f) w → Holds a w
-absorbed-within a f w _ h =
-    (bits.common-within a f.bits w
-    (onward-within Holds (λ t. common t (span f.range)) w (common a f.bits) h (λ t ht. (bits.common-within t (span f.range) w ht).0))).0
+absorbed-within a f w _ h = twice-within Holds common a f.bits (span f.range) w (λ x y. bits.common-within x y w) h

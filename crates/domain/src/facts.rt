@@ -17,14 +17,8 @@ impl Facts {
         ensures { result ≡ combined self other }
     {
         Facts {
-            bits: match self.bits.common(other.bits) {
-                Some(bits) => bits,
-                None => self.bits.read(),
-            },
-            range: match self.range.common(other.range) {
-                Some(range) => range,
-                None => self.range.read(),
-            },
+            bits: self.bits.common(other.bits).unwrap_or(self.bits.read()),
+            range: self.range.common(other.range).unwrap_or(self.range.read()),
         }
     }
 }

@@ -52,10 +52,7 @@ impl Domain for Range {
     ghost absorb_within = { absorbed-within };
 
     fn any() -> Range {
-        Range {
-            low: 0,
-            high: u64::MAX,
-        }
+        Range::FULL
     }
 
     fn only(word: u64) -> Range {
@@ -78,12 +75,12 @@ impl Domain for Range {
 
     fn of(operation: Operation, a: Range, b: Range) -> Range {
         match operation {
-            Operation::Add => a.add(b),
-            Operation::Sub => a.sub(b),
-            Operation::Mul => a.mul(b),
+            Operation::Add => a + b,
+            Operation::Sub => a - b,
+            Operation::Mul => a * b,
             Operation::Div | Operation::Shr => a.no_more(),
-            Operation::And => a.and(b),
-            Operation::Or => a.or(b),
+            Operation::And => a & b,
+            Operation::Or => a | b,
             Operation::Xor | Operation::Shl => Self::any(),
         }
     }
@@ -98,13 +95,10 @@ impl Domain for Range {
     fn narrow(self, relation: Relation, other: Range) -> Option<Range> {
         match relation {
             Relation::Equal => self.common(other),
-            Relation::Unequal => {
-                if other.is_single() {
-                    self.without(other.least())
-                } else {
-                    Some(self.read())
-                }
-            }
+            Relation::Unequal => match other.word() {
+                Some(word) => self.without(word),
+                None => Some(self.read()),
+            },
             Relation::Less => self.below(other.most()),
             Relation::LessOrEqual => self.up_to(other.most()),
             Relation::Greater => self.above(other.least()),
@@ -120,9 +114,7 @@ impl Domain for Range {
     }
 
     fn absorb(self, facts: Facts) -> Option<Range> {
-        match self.common(facts.range) {
-            Some(shared) => shared.common(Range::reach(facts.bits)),
-            None => None,
-        }
+        let shared = self.common(facts.range)?;
+        shared.common(Range::reach(facts.bits))
     }
 }

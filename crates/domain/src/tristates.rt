@@ -13,19 +13,21 @@ use tristate::Tristate;
 use words::{Operation, Relation, Width};
 
 /// The formula of the operation.
+// A function of its own: were the match in `of`, each of its arms would owe by itself that the
+// answer is the smallest.
 fn computed(operation: Operation, a: Tristate, b: Tristate) -> Tristate
     ensures { result ≡ applied operation a b }
 {
     match operation {
-        Operation::Add => a.add(b),
-        Operation::Sub => a.sub(b),
-        Operation::Mul => a.mul(b),
-        Operation::Div => a.div(b),
-        Operation::And => a.and(b),
-        Operation::Or => a.or(b),
-        Operation::Xor => a.xor(b),
-        Operation::Shl => a.shl(b),
-        Operation::Shr => a.shr(b),
+        Operation::Add => a + b,
+        Operation::Sub => a - b,
+        Operation::Mul => a * b,
+        Operation::Div => a / b,
+        Operation::And => a & b,
+        Operation::Or => a | b,
+        Operation::Xor => a ^ b,
+        Operation::Shl => a << b,
+        Operation::Shr => a >> b,
     }
 }
 
@@ -71,17 +73,11 @@ impl Domain for Tristate {
     ghost absorb_within = { absorbed-within };
 
     fn any() -> Tristate {
-        Tristate {
-            value: 0,
-            mask: u64::MAX,
-        }
+        Tristate::FULL
     }
 
     fn only(word: u64) -> Tristate {
-        Tristate {
-            value: word,
-            mask: 0,
-        }
+        Tristate::from(word)
     }
 
     fn low(width: Width) -> Tristate {
@@ -116,13 +112,10 @@ impl Domain for Tristate {
     fn narrow(self, relation: Relation, other: Tristate) -> Option<Tristate> {
         match relation {
             Relation::Equal => self.common(other),
-            Relation::Unequal => {
-                if self.is_single() && other.is_single() && self.known() == other.known() {
-                    None
-                } else {
-                    Some(self.read())
-                }
-            }
+            Relation::Unequal => match (self.word(), other.word()) {
+                (Some(word), Some(same)) if word == same => None,
+                _ => Some(self.read()),
+            },
             Relation::Less | Relation::LessOrEqual | Relation::Greater | Relation::GreaterOrEqual =>
                 Some(self.read()),
         }
@@ -136,9 +129,7 @@ impl Domain for Tristate {
     }
 
     fn absorb(self, facts: Facts) -> Option<Tristate> {
-        match self.common(facts.bits) {
-            Some(shared) => shared.common(facts.range.span()),
-            None => None,
-        }
+        let shared = self.common(facts.bits)?;
+        shared.common(facts.range.span())
     }
 }

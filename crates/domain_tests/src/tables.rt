@@ -8,75 +8,51 @@ const MAX: u64 = u64::MAX;
 /// 2 ^ 63.
 const TOP: u64 = 0x8000_0000_0000_0000;
 
+/// What an operation makes of two values.
 #[derive(Clone, Copy)]
-pub struct BitsRow {
+pub struct Applied<D> {
     pub operation: Operation,
-    pub a: Tristate,
-    pub b: Tristate,
-    pub answer: Tristate,
+    pub a: D,
+    pub b: D,
+    pub answer: D,
 }
 
+/// What a relation to `b` leaves of `a`.
 #[derive(Clone, Copy)]
-pub struct RangeRow {
-    pub operation: Operation,
-    pub a: Range,
-    pub b: Range,
-    pub answer: Range,
-}
-
-#[derive(Clone, Copy)]
-pub struct BitsNarrowed {
+pub struct Narrowed<D> {
     pub relation: Relation,
-    pub a: Tristate,
-    pub b: Tristate,
-    pub answer: Option<Tristate>,
+    pub a: D,
+    pub b: D,
+    pub answer: Option<D>,
 }
 
+/// What facts leave of a value.
 #[derive(Clone, Copy)]
-pub struct RangeNarrowed {
-    pub relation: Relation,
-    pub a: Range,
-    pub b: Range,
-    pub answer: Option<Range>,
-}
-
-#[derive(Clone, Copy)]
-pub struct BitsAbsorbed {
-    pub a: Tristate,
+pub struct Absorbed<D> {
+    pub a: D,
     pub facts: Facts,
-    pub answer: Option<Tristate>,
+    pub answer: Option<D>,
 }
 
+/// Is a word held?
 #[derive(Clone, Copy)]
-pub struct RangeAbsorbed {
-    pub a: Range,
-    pub facts: Facts,
-    pub answer: Option<Range>,
-}
-
-#[derive(Clone, Copy)]
-pub struct BitsHeld {
-    pub a: Tristate,
+pub struct Held<D> {
+    pub a: D,
     pub word: u64,
     pub answer: bool,
 }
 
-#[derive(Clone, Copy)]
-pub struct RangeHeld {
-    pub a: Range,
-    pub word: u64,
-    pub answer: bool,
-}
+// The rows are written out, since the value of a static may call no function.
 
 /// The smallest answers, worked out word by word; some operands share bits between value and mask.
-pub static BITS: [BitsRow; 31] = [
-    BitsRow {
+pub static BITS: [Applied<Tristate>; 31] = [
+    Applied {
         operation: Operation::Add,
         a: Tristate { value: 8, mask: 2 },
         b: Tristate { value: 9, mask: 2 },
         answer: Tristate { value: 17, mask: 6 },
     },
-    BitsRow {
+    Applied {
         operation: Operation::Add,
         a: Tristate {
             value: MAX,
@@ -85,7 +61,7 @@ pub static BITS: [BitsRow; 31] = [
         b: Tristate { value: 1, mask: 0 },
         answer: Tristate { value: 0, mask: 0 },
     },
-    BitsRow {
+    Applied {
         operation: Operation::Add,
         a: Tristate {
             value: TOP,
@@ -97,13 +73,13 @@ pub static BITS: [BitsRow; 31] = [
         },
         answer: Tristate { value: 0, mask: 1 },
     },
-    BitsRow {
+    Applied {
         operation: Operation::Add,
         a: Tristate { value: 3, mask: 2 },
         b: Tristate { value: 0, mask: 1 },
         answer: Tristate { value: 0, mask: 7 },
     },
-    BitsRow {
+    Applied {
         operation: Operation::Sub,
         a: Tristate { value: 8, mask: 2 },
         b: Tristate { value: 9, mask: 2 },
@@ -112,7 +88,7 @@ pub static BITS: [BitsRow; 31] = [
             mask: MAX - 1,
         },
     },
-    BitsRow {
+    Applied {
         operation: Operation::Sub,
         a: Tristate { value: 0, mask: 0 },
         b: Tristate { value: 1, mask: 0 },
@@ -121,13 +97,13 @@ pub static BITS: [BitsRow; 31] = [
             mask: 0,
         },
     },
-    BitsRow {
+    Applied {
         operation: Operation::Sub,
         a: Tristate { value: 12, mask: 3 },
         b: Tristate { value: 4, mask: 0 },
         answer: Tristate { value: 8, mask: 3 },
     },
-    BitsRow {
+    Applied {
         operation: Operation::Sub,
         a: Tristate {
             value: TOP,
@@ -139,13 +115,13 @@ pub static BITS: [BitsRow; 31] = [
         },
         answer: Tristate { value: 0, mask: 0 },
     },
-    BitsRow {
+    Applied {
         operation: Operation::And,
         a: Tristate { value: 12, mask: 3 },
         b: Tristate { value: 10, mask: 0 },
         answer: Tristate { value: 8, mask: 2 },
     },
-    BitsRow {
+    Applied {
         operation: Operation::And,
         a: Tristate {
             value: MAX,
@@ -154,19 +130,19 @@ pub static BITS: [BitsRow; 31] = [
         b: Tristate { value: 5, mask: 8 },
         answer: Tristate { value: 5, mask: 8 },
     },
-    BitsRow {
+    Applied {
         operation: Operation::And,
         a: Tristate { value: 6, mask: 1 },
         b: Tristate { value: 3, mask: 4 },
         answer: Tristate { value: 2, mask: 5 },
     },
-    BitsRow {
+    Applied {
         operation: Operation::Or,
         a: Tristate { value: 4, mask: 1 },
         b: Tristate { value: 1, mask: 2 },
         answer: Tristate { value: 5, mask: 2 },
     },
-    BitsRow {
+    Applied {
         operation: Operation::Or,
         a: Tristate { value: 0, mask: 0 },
         b: Tristate {
@@ -178,19 +154,19 @@ pub static BITS: [BitsRow; 31] = [
             mask: 3,
         },
     },
-    BitsRow {
+    Applied {
         operation: Operation::Or,
         a: Tristate { value: 7, mask: 2 },
         b: Tristate { value: 8, mask: 0 },
         answer: Tristate { value: 13, mask: 2 },
     },
-    BitsRow {
+    Applied {
         operation: Operation::Xor,
         a: Tristate { value: 4, mask: 1 },
         b: Tristate { value: 1, mask: 2 },
         answer: Tristate { value: 4, mask: 3 },
     },
-    BitsRow {
+    Applied {
         operation: Operation::Xor,
         a: Tristate {
             value: MAX,
@@ -202,13 +178,13 @@ pub static BITS: [BitsRow; 31] = [
         },
         answer: Tristate { value: 0, mask: 0 },
     },
-    BitsRow {
+    Applied {
         operation: Operation::Xor,
         a: Tristate { value: 5, mask: 5 },
         b: Tristate { value: 1, mask: 0 },
         answer: Tristate { value: 0, mask: 5 },
     },
-    BitsRow {
+    Applied {
         operation: Operation::Shl,
         a: Tristate { value: 1, mask: 2 },
         b: Tristate { value: 63, mask: 0 },
@@ -217,7 +193,7 @@ pub static BITS: [BitsRow; 31] = [
             mask: 0,
         },
     },
-    BitsRow {
+    Applied {
         operation: Operation::Shl,
         a: Tristate { value: 5, mask: 2 },
         b: Tristate { value: 4, mask: 0 },
@@ -226,7 +202,7 @@ pub static BITS: [BitsRow; 31] = [
             mask: 32,
         },
     },
-    BitsRow {
+    Applied {
         operation: Operation::Shl,
         a: Tristate { value: 1, mask: 0 },
         b: Tristate { value: 64, mask: 0 },
@@ -235,7 +211,7 @@ pub static BITS: [BitsRow; 31] = [
             mask: MAX,
         },
     },
-    BitsRow {
+    Applied {
         operation: Operation::Shl,
         a: Tristate { value: 1, mask: 0 },
         b: Tristate { value: 0, mask: 1 },
@@ -244,7 +220,7 @@ pub static BITS: [BitsRow; 31] = [
             mask: MAX,
         },
     },
-    BitsRow {
+    Applied {
         operation: Operation::Shr,
         a: Tristate {
             value: TOP,
@@ -253,13 +229,13 @@ pub static BITS: [BitsRow; 31] = [
         b: Tristate { value: 63, mask: 0 },
         answer: Tristate { value: 1, mask: 0 },
     },
-    BitsRow {
+    Applied {
         operation: Operation::Shr,
         a: Tristate { value: 40, mask: 3 },
         b: Tristate { value: 2, mask: 0 },
         answer: Tristate { value: 10, mask: 0 },
     },
-    BitsRow {
+    Applied {
         operation: Operation::Shr,
         a: Tristate { value: 1, mask: 0 },
         b: Tristate { value: 64, mask: 0 },
@@ -268,7 +244,7 @@ pub static BITS: [BitsRow; 31] = [
             mask: MAX,
         },
     },
-    BitsRow {
+    Applied {
         operation: Operation::Shr,
         a: Tristate { value: 1, mask: 0 },
         b: Tristate { value: 2, mask: 1 },
@@ -277,13 +253,13 @@ pub static BITS: [BitsRow; 31] = [
             mask: MAX,
         },
     },
-    BitsRow {
+    Applied {
         operation: Operation::Mul,
         a: Tristate { value: 6, mask: 0 },
         b: Tristate { value: 7, mask: 0 },
         answer: Tristate { value: 42, mask: 0 },
     },
-    BitsRow {
+    Applied {
         operation: Operation::Mul,
         a: Tristate {
             value: TOP,
@@ -292,7 +268,7 @@ pub static BITS: [BitsRow; 31] = [
         b: Tristate { value: 2, mask: 0 },
         answer: Tristate { value: 0, mask: 0 },
     },
-    BitsRow {
+    Applied {
         operation: Operation::Mul,
         a: Tristate { value: 6, mask: 1 },
         b: Tristate { value: 7, mask: 0 },
@@ -301,13 +277,13 @@ pub static BITS: [BitsRow; 31] = [
             mask: MAX,
         },
     },
-    BitsRow {
+    Applied {
         operation: Operation::Div,
         a: Tristate { value: 43, mask: 0 },
         b: Tristate { value: 6, mask: 0 },
         answer: Tristate { value: 7, mask: 0 },
     },
-    BitsRow {
+    Applied {
         operation: Operation::Div,
         a: Tristate { value: 43, mask: 0 },
         b: Tristate { value: 0, mask: 0 },
@@ -316,7 +292,7 @@ pub static BITS: [BitsRow; 31] = [
             mask: MAX,
         },
     },
-    BitsRow {
+    Applied {
         operation: Operation::Div,
         a: Tristate { value: 43, mask: 4 },
         b: Tristate { value: 6, mask: 0 },
@@ -328,14 +304,14 @@ pub static BITS: [BitsRow; 31] = [
 ];
 
 /// Some operands have their ends in the other order.
-pub static RANGES: [RangeRow; 18] = [
-    RangeRow {
+pub static RANGES: [Applied<Range>; 18] = [
+    Applied {
         operation: Operation::Add,
         a: Range { low: 1, high: 4 },
         b: Range { low: 10, high: 20 },
         answer: Range { low: 11, high: 24 },
     },
-    RangeRow {
+    Applied {
         operation: Operation::Add,
         a: Range { low: 8, high: 64 },
         b: Range {
@@ -344,7 +320,7 @@ pub static RANGES: [RangeRow; 18] = [
         },
         answer: Range { low: 0, high: MAX },
     },
-    RangeRow {
+    Applied {
         operation: Operation::Add,
         a: Range { low: 4, high: 1 },
         b: Range {
@@ -356,67 +332,67 @@ pub static RANGES: [RangeRow; 18] = [
             high: MAX,
         },
     },
-    RangeRow {
+    Applied {
         operation: Operation::Sub,
         a: Range { low: 10, high: 20 },
         b: Range { low: 1, high: 4 },
         answer: Range { low: 6, high: 19 },
     },
-    RangeRow {
+    Applied {
         operation: Operation::Sub,
         a: Range { low: 10, high: 20 },
         b: Range { low: 1, high: 11 },
         answer: Range { low: 0, high: MAX },
     },
-    RangeRow {
+    Applied {
         operation: Operation::Sub,
         a: Range { low: 10, high: 20 },
         b: Range { low: 10, high: 3 },
         answer: Range { low: 0, high: 17 },
     },
-    RangeRow {
+    Applied {
         operation: Operation::Mul,
         a: Range { low: 2, high: 3 },
         b: Range { low: 5, high: 7 },
         answer: Range { low: 10, high: 21 },
     },
-    RangeRow {
+    Applied {
         operation: Operation::Mul,
         a: Range { low: 0, high: TOP },
         b: Range { low: 0, high: 2 },
         answer: Range { low: 0, high: MAX },
     },
-    RangeRow {
+    Applied {
         operation: Operation::Mul,
         a: Range { low: 0, high: TOP },
         b: Range { low: 1, high: 1 },
         answer: Range { low: 0, high: TOP },
     },
-    RangeRow {
+    Applied {
         operation: Operation::Div,
         a: Range { low: 10, high: 20 },
         b: Range { low: 1, high: 1 },
         answer: Range { low: 0, high: 20 },
     },
-    RangeRow {
+    Applied {
         operation: Operation::Div,
         a: Range { low: 0, high: 0 },
         b: Range { low: 0, high: 0 },
         answer: Range { low: 0, high: 0 },
     },
-    RangeRow {
+    Applied {
         operation: Operation::Shr,
         a: Range { low: 9, high: 8 },
         b: Range { low: 64, high: 70 },
         answer: Range { low: 0, high: 9 },
     },
-    RangeRow {
+    Applied {
         operation: Operation::And,
         a: Range { low: 10, high: 20 },
         b: Range { low: 1, high: 7 },
         answer: Range { low: 0, high: 7 },
     },
-    RangeRow {
+    Applied {
         operation: Operation::And,
         a: Range {
             low: MAX,
@@ -425,25 +401,25 @@ pub static RANGES: [RangeRow; 18] = [
         b: Range { low: MAX, high: 0 },
         answer: Range { low: 0, high: MAX },
     },
-    RangeRow {
+    Applied {
         operation: Operation::Or,
         a: Range { low: 4, high: 5 },
         b: Range { low: 1, high: 8 },
         answer: Range { low: 4, high: MAX },
     },
-    RangeRow {
+    Applied {
         operation: Operation::Or,
         a: Range { low: 0, high: 0 },
         b: Range { low: 0, high: 1 },
         answer: Range { low: 0, high: MAX },
     },
-    RangeRow {
+    Applied {
         operation: Operation::Xor,
         a: Range { low: 1, high: 1 },
         b: Range { low: 1, high: 1 },
         answer: Range { low: 0, high: MAX },
     },
-    RangeRow {
+    Applied {
         operation: Operation::Shl,
         a: Range { low: 1, high: 1 },
         b: Range { low: 1, high: 1 },
@@ -452,8 +428,8 @@ pub static RANGES: [RangeRow; 18] = [
 ];
 
 /// The orders leave known bits, as they are read.
-pub static BITS_NARROWED: [BitsNarrowed; 14] = [
-    BitsNarrowed {
+pub static BITS_NARROWED: [Narrowed<Tristate>; 14] = [
+    Narrowed {
         relation: Relation::Equal,
         a: Tristate {
             value: 0,
@@ -462,13 +438,13 @@ pub static BITS_NARROWED: [BitsNarrowed; 14] = [
         b: Tristate { value: 0, mask: 0 },
         answer: Some(Tristate { value: 0, mask: 0 }),
     },
-    BitsNarrowed {
+    Narrowed {
         relation: Relation::Equal,
         a: Tristate { value: 1, mask: 0 },
         b: Tristate { value: 0, mask: 1 },
         answer: Some(Tristate { value: 1, mask: 0 }),
     },
-    BitsNarrowed {
+    Narrowed {
         relation: Relation::Equal,
         a: Tristate {
             value: TOP,
@@ -483,13 +459,13 @@ pub static BITS_NARROWED: [BitsNarrowed; 14] = [
             mask: 0,
         }),
     },
-    BitsNarrowed {
+    Narrowed {
         relation: Relation::Equal,
         a: Tristate { value: 0, mask: 0 },
         b: Tristate { value: 1, mask: 0 },
         answer: None,
     },
-    BitsNarrowed {
+    Narrowed {
         relation: Relation::Equal,
         a: Tristate {
             value: MAX,
@@ -504,13 +480,13 @@ pub static BITS_NARROWED: [BitsNarrowed; 14] = [
             mask: 0,
         }),
     },
-    BitsNarrowed {
+    Narrowed {
         relation: Relation::Unequal,
         a: Tristate { value: 0, mask: 0 },
         b: Tristate { value: 0, mask: 0 },
         answer: None,
     },
-    BitsNarrowed {
+    Narrowed {
         relation: Relation::Unequal,
         a: Tristate {
             value: MAX,
@@ -522,7 +498,7 @@ pub static BITS_NARROWED: [BitsNarrowed; 14] = [
         },
         answer: None,
     },
-    BitsNarrowed {
+    Narrowed {
         relation: Relation::Unequal,
         a: Tristate {
             value: TOP,
@@ -534,25 +510,25 @@ pub static BITS_NARROWED: [BitsNarrowed; 14] = [
             mask: 0,
         }),
     },
-    BitsNarrowed {
+    Narrowed {
         relation: Relation::Unequal,
         a: Tristate { value: 0, mask: 1 },
         b: Tristate { value: 0, mask: 0 },
         answer: Some(Tristate { value: 0, mask: 1 }),
     },
-    BitsNarrowed {
+    Narrowed {
         relation: Relation::Unequal,
         a: Tristate { value: 1, mask: 1 },
         b: Tristate { value: 1, mask: 1 },
         answer: Some(Tristate { value: 0, mask: 1 }),
     },
-    BitsNarrowed {
+    Narrowed {
         relation: Relation::Less,
         a: Tristate { value: 0, mask: 0 },
         b: Tristate { value: 0, mask: 0 },
         answer: Some(Tristate { value: 0, mask: 0 }),
     },
-    BitsNarrowed {
+    Narrowed {
         relation: Relation::LessOrEqual,
         a: Tristate {
             value: MAX,
@@ -564,7 +540,7 @@ pub static BITS_NARROWED: [BitsNarrowed; 14] = [
             mask: 0,
         }),
     },
-    BitsNarrowed {
+    Narrowed {
         relation: Relation::Greater,
         a: Tristate { value: 3, mask: 1 },
         b: Tristate {
@@ -573,7 +549,7 @@ pub static BITS_NARROWED: [BitsNarrowed; 14] = [
         },
         answer: Some(Tristate { value: 2, mask: 1 }),
     },
-    BitsNarrowed {
+    Narrowed {
         relation: Relation::GreaterOrEqual,
         a: Tristate {
             value: 0,
@@ -591,14 +567,14 @@ pub static BITS_NARROWED: [BitsNarrowed; 14] = [
 ];
 
 /// No cut wraps at an end of the words.
-pub static RANGES_NARROWED: [RangeNarrowed; 29] = [
-    RangeNarrowed {
+pub static RANGES_NARROWED: [Narrowed<Range>; 29] = [
+    Narrowed {
         relation: Relation::Equal,
         a: Range { low: 0, high: MAX },
         b: Range { low: 0, high: 0 },
         answer: Some(Range { low: 0, high: 0 }),
     },
-    RangeNarrowed {
+    Narrowed {
         relation: Relation::Equal,
         a: Range { low: 0, high: MAX },
         b: Range {
@@ -610,7 +586,7 @@ pub static RANGES_NARROWED: [RangeNarrowed; 29] = [
             high: MAX,
         }),
     },
-    RangeNarrowed {
+    Narrowed {
         relation: Relation::Equal,
         a: Range { low: 0, high: TOP },
         b: Range {
@@ -622,7 +598,7 @@ pub static RANGES_NARROWED: [RangeNarrowed; 29] = [
             high: TOP,
         }),
     },
-    RangeNarrowed {
+    Narrowed {
         relation: Relation::Equal,
         a: Range { low: 0, high: 1 },
         b: Range {
@@ -631,13 +607,13 @@ pub static RANGES_NARROWED: [RangeNarrowed; 29] = [
         },
         answer: None,
     },
-    RangeNarrowed {
+    Narrowed {
         relation: Relation::Unequal,
         a: Range { low: 0, high: MAX },
         b: Range { low: 0, high: 0 },
         answer: Some(Range { low: 1, high: MAX }),
     },
-    RangeNarrowed {
+    Narrowed {
         relation: Relation::Unequal,
         a: Range { low: 0, high: MAX },
         b: Range {
@@ -649,13 +625,13 @@ pub static RANGES_NARROWED: [RangeNarrowed; 29] = [
             high: MAX - 1,
         }),
     },
-    RangeNarrowed {
+    Narrowed {
         relation: Relation::Unequal,
         a: Range { low: 0, high: MAX },
         b: Range { low: 1, high: 1 },
         answer: Some(Range { low: 0, high: MAX }),
     },
-    RangeNarrowed {
+    Narrowed {
         relation: Relation::Unequal,
         a: Range {
             low: MAX,
@@ -667,13 +643,13 @@ pub static RANGES_NARROWED: [RangeNarrowed; 29] = [
         },
         answer: None,
     },
-    RangeNarrowed {
+    Narrowed {
         relation: Relation::Unequal,
         a: Range { low: 0, high: 0 },
         b: Range { low: 0, high: 0 },
         answer: None,
     },
-    RangeNarrowed {
+    Narrowed {
         relation: Relation::Unequal,
         a: Range {
             low: TOP,
@@ -688,25 +664,25 @@ pub static RANGES_NARROWED: [RangeNarrowed; 29] = [
             high: TOP + 1,
         }),
     },
-    RangeNarrowed {
+    Narrowed {
         relation: Relation::Unequal,
         a: Range { low: 0, high: 1 },
         b: Range { low: 1, high: 0 },
         answer: Some(Range { low: 0, high: 1 }),
     },
-    RangeNarrowed {
+    Narrowed {
         relation: Relation::Less,
         a: Range { low: 0, high: MAX },
         b: Range { low: 0, high: 0 },
         answer: None,
     },
-    RangeNarrowed {
+    Narrowed {
         relation: Relation::Less,
         a: Range { low: 0, high: MAX },
         b: Range { low: 1, high: 1 },
         answer: Some(Range { low: 0, high: 0 }),
     },
-    RangeNarrowed {
+    Narrowed {
         relation: Relation::Less,
         a: Range { low: 0, high: MAX },
         b: Range {
@@ -718,7 +694,7 @@ pub static RANGES_NARROWED: [RangeNarrowed; 29] = [
             high: TOP - 1,
         }),
     },
-    RangeNarrowed {
+    Narrowed {
         relation: Relation::Less,
         a: Range { low: 0, high: MAX },
         b: Range {
@@ -730,31 +706,31 @@ pub static RANGES_NARROWED: [RangeNarrowed; 29] = [
             high: MAX - 1,
         }),
     },
-    RangeNarrowed {
+    Narrowed {
         relation: Relation::Less,
         a: Range { low: 57, high: 60 },
         b: Range { low: 57, high: 57 },
         answer: None,
     },
-    RangeNarrowed {
+    Narrowed {
         relation: Relation::Less,
         a: Range { low: 60, high: 57 },
         b: Range { low: 58, high: 58 },
         answer: Some(Range { low: 57, high: 57 }),
     },
-    RangeNarrowed {
+    Narrowed {
         relation: Relation::LessOrEqual,
         a: Range { low: 0, high: MAX },
         b: Range { low: 0, high: 0 },
         answer: Some(Range { low: 0, high: 0 }),
     },
-    RangeNarrowed {
+    Narrowed {
         relation: Relation::LessOrEqual,
         a: Range { low: 1, high: MAX },
         b: Range { low: 0, high: 0 },
         answer: None,
     },
-    RangeNarrowed {
+    Narrowed {
         relation: Relation::LessOrEqual,
         a: Range { low: 0, high: MAX },
         b: Range {
@@ -763,7 +739,7 @@ pub static RANGES_NARROWED: [RangeNarrowed; 29] = [
         },
         answer: Some(Range { low: 0, high: MAX }),
     },
-    RangeNarrowed {
+    Narrowed {
         relation: Relation::LessOrEqual,
         a: Range {
             low: TOP,
@@ -778,7 +754,7 @@ pub static RANGES_NARROWED: [RangeNarrowed; 29] = [
             high: TOP,
         }),
     },
-    RangeNarrowed {
+    Narrowed {
         relation: Relation::Greater,
         a: Range { low: 0, high: MAX },
         b: Range {
@@ -787,13 +763,13 @@ pub static RANGES_NARROWED: [RangeNarrowed; 29] = [
         },
         answer: None,
     },
-    RangeNarrowed {
+    Narrowed {
         relation: Relation::Greater,
         a: Range { low: 0, high: MAX },
         b: Range { low: 0, high: 0 },
         answer: Some(Range { low: 1, high: MAX }),
     },
-    RangeNarrowed {
+    Narrowed {
         relation: Relation::Greater,
         a: Range { low: 0, high: MAX },
         b: Range {
@@ -805,13 +781,13 @@ pub static RANGES_NARROWED: [RangeNarrowed; 29] = [
             high: MAX,
         }),
     },
-    RangeNarrowed {
+    Narrowed {
         relation: Relation::Greater,
         a: Range { low: 0, high: 1 },
         b: Range { low: 1, high: 1 },
         answer: None,
     },
-    RangeNarrowed {
+    Narrowed {
         relation: Relation::GreaterOrEqual,
         a: Range { low: 0, high: MAX },
         b: Range {
@@ -823,7 +799,7 @@ pub static RANGES_NARROWED: [RangeNarrowed; 29] = [
             high: MAX,
         }),
     },
-    RangeNarrowed {
+    Narrowed {
         relation: Relation::GreaterOrEqual,
         a: Range { low: 0, high: 1 },
         b: Range {
@@ -832,13 +808,13 @@ pub static RANGES_NARROWED: [RangeNarrowed; 29] = [
         },
         answer: None,
     },
-    RangeNarrowed {
+    Narrowed {
         relation: Relation::GreaterOrEqual,
         a: Range { low: 1, high: 0 },
         b: Range { low: 1, high: 1 },
         answer: Some(Range { low: 1, high: 1 }),
     },
-    RangeNarrowed {
+    Narrowed {
         relation: Relation::GreaterOrEqual,
         a: Range { low: 0, high: MAX },
         b: Range { low: 0, high: 0 },
@@ -847,8 +823,8 @@ pub static RANGES_NARROWED: [RangeNarrowed; 29] = [
 ];
 
 /// With the known bits of the facts, and then with the span of their range.
-pub static BITS_ABSORBED: [BitsAbsorbed; 7] = [
-    BitsAbsorbed {
+pub static BITS_ABSORBED: [Absorbed<Tristate>; 7] = [
+    Absorbed {
         a: Tristate {
             value: 0,
             mask: MAX,
@@ -859,7 +835,7 @@ pub static BITS_ABSORBED: [BitsAbsorbed; 7] = [
         },
         answer: Some(Tristate { value: 0, mask: 0 }),
     },
-    BitsAbsorbed {
+    Absorbed {
         a: Tristate {
             value: 0,
             mask: MAX,
@@ -873,7 +849,7 @@ pub static BITS_ABSORBED: [BitsAbsorbed; 7] = [
         },
         answer: Some(Tristate { value: 1, mask: 0 }),
     },
-    BitsAbsorbed {
+    Absorbed {
         a: Tristate { value: 1, mask: 0 },
         facts: Facts {
             bits: Tristate {
@@ -884,7 +860,7 @@ pub static BITS_ABSORBED: [BitsAbsorbed; 7] = [
         },
         answer: None,
     },
-    BitsAbsorbed {
+    Absorbed {
         a: Tristate {
             value: 0,
             mask: MAX,
@@ -904,7 +880,7 @@ pub static BITS_ABSORBED: [BitsAbsorbed; 7] = [
             mask: 0,
         }),
     },
-    BitsAbsorbed {
+    Absorbed {
         a: Tristate {
             value: 0,
             mask: MAX,
@@ -924,7 +900,7 @@ pub static BITS_ABSORBED: [BitsAbsorbed; 7] = [
             mask: TOP - 1,
         }),
     },
-    BitsAbsorbed {
+    Absorbed {
         a: Tristate { value: 0, mask: 1 },
         facts: Facts {
             bits: Tristate {
@@ -935,7 +911,7 @@ pub static BITS_ABSORBED: [BitsAbsorbed; 7] = [
         },
         answer: Some(Tristate { value: 0, mask: 0 }),
     },
-    BitsAbsorbed {
+    Absorbed {
         a: Tristate { value: 2, mask: 3 },
         facts: Facts {
             bits: Tristate { value: 3, mask: 1 },
@@ -946,8 +922,8 @@ pub static BITS_ABSORBED: [BitsAbsorbed; 7] = [
 ];
 
 /// With the range of the facts, and then from the least to the greatest of their known bits.
-pub static RANGES_ABSORBED: [RangeAbsorbed; 7] = [
-    RangeAbsorbed {
+pub static RANGES_ABSORBED: [Absorbed<Range>; 7] = [
+    Absorbed {
         a: Range { low: 0, high: MAX },
         facts: Facts {
             bits: Tristate { value: 0, mask: 0 },
@@ -955,7 +931,7 @@ pub static RANGES_ABSORBED: [RangeAbsorbed; 7] = [
         },
         answer: Some(Range { low: 0, high: 0 }),
     },
-    RangeAbsorbed {
+    Absorbed {
         a: Range { low: 0, high: MAX },
         facts: Facts {
             bits: Tristate {
@@ -966,7 +942,7 @@ pub static RANGES_ABSORBED: [RangeAbsorbed; 7] = [
         },
         answer: Some(Range { low: 1, high: MAX }),
     },
-    RangeAbsorbed {
+    Absorbed {
         a: Range { low: 0, high: 1 },
         facts: Facts {
             bits: Tristate {
@@ -977,7 +953,7 @@ pub static RANGES_ABSORBED: [RangeAbsorbed; 7] = [
         },
         answer: None,
     },
-    RangeAbsorbed {
+    Absorbed {
         a: Range { low: 0, high: MAX },
         facts: Facts {
             bits: Tristate {
@@ -991,7 +967,7 @@ pub static RANGES_ABSORBED: [RangeAbsorbed; 7] = [
             high: MAX,
         }),
     },
-    RangeAbsorbed {
+    Absorbed {
         a: Range { low: 5, high: 9 },
         facts: Facts {
             bits: Tristate {
@@ -1002,7 +978,7 @@ pub static RANGES_ABSORBED: [RangeAbsorbed; 7] = [
         },
         answer: Some(Range { low: 9, high: 9 }),
     },
-    RangeAbsorbed {
+    Absorbed {
         a: Range { low: 1, high: MAX },
         facts: Facts {
             bits: Tristate {
@@ -1013,7 +989,7 @@ pub static RANGES_ABSORBED: [RangeAbsorbed; 7] = [
         },
         answer: None,
     },
-    RangeAbsorbed {
+    Absorbed {
         a: Range { low: 0, high: MAX },
         facts: Facts {
             bits: Tristate {
@@ -1030,23 +1006,23 @@ pub static RANGES_ABSORBED: [RangeAbsorbed; 7] = [
 ];
 
 /// Words at the ends.
-pub static BITS_HELD: [BitsHeld; 9] = [
-    BitsHeld {
+pub static BITS_HELD: [Held<Tristate>; 9] = [
+    Held {
         a: Tristate { value: 0, mask: 0 },
         word: 0,
         answer: true,
     },
-    BitsHeld {
+    Held {
         a: Tristate { value: 0, mask: 0 },
         word: 1,
         answer: false,
     },
-    BitsHeld {
+    Held {
         a: Tristate { value: 0, mask: 1 },
         word: 1,
         answer: true,
     },
-    BitsHeld {
+    Held {
         a: Tristate {
             value: TOP,
             mask: 0,
@@ -1054,7 +1030,7 @@ pub static BITS_HELD: [BitsHeld; 9] = [
         word: TOP,
         answer: true,
     },
-    BitsHeld {
+    Held {
         a: Tristate {
             value: TOP,
             mask: TOP - 1,
@@ -1062,7 +1038,7 @@ pub static BITS_HELD: [BitsHeld; 9] = [
         word: MAX,
         answer: true,
     },
-    BitsHeld {
+    Held {
         a: Tristate {
             value: TOP,
             mask: TOP - 1,
@@ -1070,7 +1046,7 @@ pub static BITS_HELD: [BitsHeld; 9] = [
         word: TOP - 1,
         answer: false,
     },
-    BitsHeld {
+    Held {
         a: Tristate {
             value: MAX,
             mask: MAX,
@@ -1078,7 +1054,7 @@ pub static BITS_HELD: [BitsHeld; 9] = [
         word: 0,
         answer: true,
     },
-    BitsHeld {
+    Held {
         a: Tristate {
             value: MAX,
             mask: 0,
@@ -1086,7 +1062,7 @@ pub static BITS_HELD: [BitsHeld; 9] = [
         word: MAX,
         answer: true,
     },
-    BitsHeld {
+    Held {
         a: Tristate {
             value: MAX,
             mask: 0,
@@ -1097,23 +1073,23 @@ pub static BITS_HELD: [BitsHeld; 9] = [
 ];
 
 /// Words at the ends.
-pub static RANGES_HELD: [RangeHeld; 9] = [
-    RangeHeld {
+pub static RANGES_HELD: [Held<Range>; 9] = [
+    Held {
         a: Range { low: 0, high: 0 },
         word: 0,
         answer: true,
     },
-    RangeHeld {
+    Held {
         a: Range { low: 0, high: 0 },
         word: 1,
         answer: false,
     },
-    RangeHeld {
+    Held {
         a: Range { low: 1, high: 0 },
         word: 1,
         answer: true,
     },
-    RangeHeld {
+    Held {
         a: Range {
             low: TOP,
             high: MAX,
@@ -1121,7 +1097,7 @@ pub static RANGES_HELD: [RangeHeld; 9] = [
         word: TOP,
         answer: true,
     },
-    RangeHeld {
+    Held {
         a: Range {
             low: MAX,
             high: TOP,
@@ -1129,7 +1105,7 @@ pub static RANGES_HELD: [RangeHeld; 9] = [
         word: TOP - 1,
         answer: false,
     },
-    RangeHeld {
+    Held {
         a: Range {
             low: TOP,
             high: MAX,
@@ -1137,17 +1113,17 @@ pub static RANGES_HELD: [RangeHeld; 9] = [
         word: MAX,
         answer: true,
     },
-    RangeHeld {
+    Held {
         a: Range { low: 0, high: MAX },
         word: 0,
         answer: true,
     },
-    RangeHeld {
+    Held {
         a: Range { low: 1, high: MAX },
         word: 0,
         answer: false,
     },
-    RangeHeld {
+    Held {
         a: Range {
             low: MAX,
             high: MAX,

@@ -1,9 +1,9 @@
 -- The laws of parities: each answer holds what it has to hold.
-use Rattle.std.specs.Prelude.{◌≡◌, ℕ, ◌+◌, ◌%◌, min, Bool, true, false, cond, ◌==◌, ◌≢◌, bit_and, bit_xor, refl}
+use Rattle.std.specs.Prelude.{◌≡◌, ℕ, ◌+◌, ◌%◌, min, ◌==◌, bit_and, bit_xor, refl}
 use Rattle.std.proofs.Common.{arith, rules, eqb-true, ◌^◌, ◌<◌, ◌⊎◌, Decides}
 use Rattle.std.proofs.lemmas.Nat.{and_mask}
 use Rattle.std.specs.Int.Bits.{and_step, xor_add_and}
-use Rattle.std.proofs.lemmas.Bool.{eqb-false}
+use Rattle.std.proofs.lemmas.Bool.{cond_both, eqb-false}
 use Rattle.domain.specs.declared.facts.Facts.{Facts}
 use Rattle.domain.specs.Facts.{Meets}
 use Rattle.parity.specs.declared.Parity.{Parity}
@@ -25,22 +25,10 @@ use Rattle.words.proofs.Held.{bit-clear, bit-held}
 -- ---- the operations
 
 sum_stands : (a b : Parity) (x y z : ℕ) → z % 2 ≡ (x + y) % 2 → Stands a x → Stands b y → Stands (sum a b) z
-sum_stands Even Even x y z e ha hb = omega arith
-sum_stands Even Odd x y z e ha hb = omega arith
-sum_stands Even Either x y z e ha hb = tt
-sum_stands Odd Even x y z e ha hb = omega arith
-sum_stands Odd Odd x y z e ha hb = omega arith
-sum_stands Odd Either x y z e ha hb = tt
-sum_stands Either b x y z e ha hb = tt
+sum_stands a b x y z e ha hb = search rules
 
 conjunction_stands : (a b : Parity) (x y z : ℕ) → z % 2 ≡ min (x % 2) (y % 2) → Stands a x → Stands b y → Stands (conjunction a b) z
-conjunction_stands Even b x y z e ha hb = omega arith
-conjunction_stands Odd Even x y z e ha hb = omega arith
-conjunction_stands Odd Odd x y z e ha hb = omega arith
-conjunction_stands Odd Either x y z e ha hb = tt
-conjunction_stands Either Even x y z e ha hb = omega arith
-conjunction_stands Either Odd x y z e ha hb = tt
-conjunction_stands Either Either x y z e ha hb = tt
+conjunction_stands a b x y z e ha hb = search rules
 
 pub applied_stands : (op : Operation) (a b : Parity) (x y : ℕ) → Word x → Word y → Stands a x → Stands b y → (Sticks op y → ⊥)
     → Stands (applied op a b) (result_of op x y)
@@ -62,15 +50,15 @@ lowest-bit Odd w h = omega (arith, and_mask w 1)
 lowest-bit Either w h = full-holds w
 
 parity_stands : (w v : ℕ) → w % 2 ≡ v % 2 → Stands (parity_of v) w
-parity_stands w v e = by (v % 2 == 0) (eqb-true (v % 2) 0) (eqb-false (v % 2) 0)
-  where
-    by : (t : Bool) → (t ≡ true → v % 2 ≡ 0) → (t ≡ false → v % 2 ≢ 0) → Stands (cond t Even Odd) w
-    by true yes-is no-is = omega (arith, yes-is refl)
-    by false yes-is no-is = omega (arith, no-is refl)
+parity_stands w v e =
+    cond_both (v % 2 == 0) Even Odd (λ (p : Parity). Stands p w)
+    (λ even. omega (arith, eqb-true (v % 2) 0 even)) (λ odd. omega (arith, eqb-false (v % 2) 0 odd))
 
 -- a bit that is known is the word's
 pub lowest_stands : (t : Tristate) (w : ℕ) → bits.Holds t w → Stands (lowest t) w
-lowest_stands t w h = by (bits.unknown t % 2 == 0) (eqb-true (bits.unknown t % 2) 0)
+lowest_stands t w h =
+    cond_both (bits.unknown t % 2 == 0) (parity_of (bits.known t)) Either (λ (p : Parity). Stands p w)
+    (λ none. parity_stands w (bits.known t) (same (eqb-true (bits.unknown t % 2) 0 none))) (λ _. tt)
   where
     mask_lt : Word (bits.unknown t)
     mask_lt = omega arith
@@ -86,18 +74,8 @@ lowest_stands t w h = by (bits.unknown t % 2 == 0) (eqb-true (bits.unknown t % 2
           bit-first (bits.known t),
         )
 
-    by : (b : Bool) → (b ≡ true → bits.unknown t % 2 ≡ 0) → Stands (cond b (parity_of (bits.known t)) Either) w
-    by true none = parity_stands w (bits.known t) (same (none refl))
-    by false none = tt
-
 pub common_stands : (a b : Parity) (w : ℕ) → Stands a w → Stands b w → HoldsIn Stands (common a b) w
-common_stands Even Even w ha hb = ha
-common_stands Even Odd w ha hb = omega arith
-common_stands Even Either w ha hb = ha
-common_stands Odd Even w ha hb = omega arith
-common_stands Odd Odd w ha hb = ha
-common_stands Odd Either w ha hb = ha
-common_stands Either b w ha hb = hb
+common_stands a b w ha hb = search rules
 
 -- ---- the other laws
 

@@ -9,6 +9,7 @@ ghost use Rattle.parity.specs.Laws.{absorbed_stands, absorbed-within, applied_st
 
 use domain::{Domain, Facts};
 use range::Range;
+use std::ops::{Add, BitAnd};
 use tristate::Tristate;
 use words::{Operation, Relation, Width};
 
@@ -20,52 +21,18 @@ pub enum Parity {
     Either,
 }
 
-fn parity_of(word: u64) -> Parity
-    ensures { result ≡ parity_of word }
-{
-    if word % 2 == 0 {
-        Parity::Even
-    } else {
-        Parity::Odd
-    }
-}
-
 /// What is known of the lowest bit.
 fn lowest(bits: Tristate) -> Parity
     ensures { result ≡ lowest bits }
 {
     if bits.unknown() % 2 == 0 {
-        parity_of(bits.known())
+        Parity::from(bits.known())
     } else {
         Parity::Either
     }
 }
 
 impl Parity {
-    /// The parity of a sum, and so of a difference and of an exclusive or.
-    pub fn sum(self, other: Parity) -> Parity
-        ensures { result ≡ sum self other }
-    {
-        match (self, other) {
-            (Parity::Even, known) => known,
-            (Parity::Odd, Parity::Even) => Parity::Odd,
-            (Parity::Odd, Parity::Odd) => Parity::Even,
-            (Parity::Odd, Parity::Either) => Parity::Either,
-            (Parity::Either, _) => Parity::Either,
-        }
-    }
-
-    pub fn and(self, other: Parity) -> Parity
-        ensures { result ≡ conjunction self other }
-    {
-        match (self, other) {
-            (Parity::Even, _) => Parity::Even,
-            (Parity::Odd, known) => known,
-            (Parity::Either, Parity::Even) => Parity::Even,
-            (Parity::Either, _) => Parity::Either,
-        }
-    }
-
     /// What holds just the words that both hold.
     pub fn common(self, other: Parity) -> Option<Parity>
         ensures { result ≡ common self other }
@@ -76,6 +43,50 @@ impl Parity {
             (Parity::Odd, Parity::Even) => None,
             (Parity::Odd, _) => Some(Parity::Odd),
             (Parity::Either, known) => Some(known),
+        }
+    }
+}
+
+/// The parity of one word.
+impl From<u64> for Parity {
+    ghost from_gives = { λ w p. p ≡ parity_of w };
+
+    fn from(word: u64) -> Parity {
+        if word % 2 == 0 {
+            Parity::Even
+        } else {
+            Parity::Odd
+        }
+    }
+}
+
+/// The parity of a sum, and so of a difference and of an exclusive or.
+impl Add for Parity {
+    type Output = Parity;
+
+    ghost add_gives = { λ a b r. r ≡ sum a b };
+
+    fn add(self, other: Parity) -> Parity {
+        match (self, other) {
+            (Parity::Even, known) => known,
+            (Parity::Odd, Parity::Even) => Parity::Odd,
+            (Parity::Odd, Parity::Odd) => Parity::Even,
+            (Parity::Odd, Parity::Either) | (Parity::Either, _) => Parity::Either,
+        }
+    }
+}
+
+impl BitAnd for Parity {
+    type Output = Parity;
+
+    ghost bitand_gives = { λ a b r. r ≡ conjunction a b };
+
+    fn bitand(self, other: Parity) -> Parity {
+        match (self, other) {
+            (Parity::Even, _) => Parity::Even,
+            (Parity::Odd, known) => known,
+            (Parity::Either, Parity::Even) => Parity::Even,
+            (Parity::Either, _) => Parity::Either,
         }
     }
 }
@@ -126,7 +137,7 @@ impl Domain for Parity {
     }
 
     fn only(word: u64) -> Parity {
-        parity_of(word)
+        Parity::from(word)
     }
 
     fn low(_width: Width) -> Parity {
@@ -143,8 +154,8 @@ impl Domain for Parity {
 
     fn of(operation: Operation, a: Parity, b: Parity) -> Parity {
         match operation {
-            Operation::Add | Operation::Sub | Operation::Xor => a.sum(b),
-            Operation::And => a.and(b),
+            Operation::Add | Operation::Sub | Operation::Xor => a + b,
+            Operation::And => a & b,
             Operation::Mul | Operation::Div | Operation::Or | Operation::Shl | Operation::Shr =>
                 Parity::Either,
         }

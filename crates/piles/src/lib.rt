@@ -21,13 +21,6 @@ pub fn masked_sum<D: Domain>(a: D, b: D, mask: u64) -> D
     ensures named { result ≡ masked_sum D.Domain a b mask }
     ensures sound { HoldsMaskedSums D.Domain a b mask result }
 {
-    answer(a, b, mask)
-}
-
-/// What `masked_sum` answers, step by step.
-fn answer<D: Domain>(a: D, b: D, mask: u64) -> D
-    ensures { result ≡ masked_sum D.Domain a b mask }
-{
     let sum = D::of(Operation::Add, a, b);
     D::of(Operation::And, sum, D::only(mask))
 }
@@ -36,21 +29,14 @@ fn answer<D: Domain>(a: D, b: D, mask: u64) -> D
 pub fn masked_sum_of_odd_words() -> Pile
     ensures { result ≡ even_below64 }
 {
-    let full = Range {
-        low: 0,
-        high: u64::MAX,
-    };
     let odd = Product {
         first: Product {
             first: Parity::Odd,
-            second: full,
+            second: Range::FULL,
         },
         second: Product {
-            first: Tristate {
-                value: 0,
-                mask: u64::MAX,
-            },
-            second: full,
+            first: Tristate::FULL,
+            second: Range::FULL,
         },
     };
     masked_sum(odd, odd, 63)

@@ -1,11 +1,13 @@
 -- The laws of a product, from those of its parts.
 use Rattle.std.proofs.Common.{ℕ, ◌⊎◌, Some, None, Option, unwrap_or, inl, inr}
+use Rattle.std.specs.Option.{option_and_then}
 use Rattle.domain.specs.declared.domain.Domain.{Ghosts}
 use Rattle.domain.specs.declared.facts.Facts.{Facts}
 use Rattle.domain.specs.Facts.{Meets, combined}
-use Rattle.domain.specs.Lawful.{Lawful}
+use Rattle.domain.specs.Lawful.{AbsorbHolds, AbsorbWithin, FactsMet, JoinHolds, NarrowHolds, OfHolds}
+use Rattle.domain.specs.Onward.{onward-holds, onward-within}
 use Rattle.product.specs.declared.Product.{Product}
-use Rattle.product.specs.Products.{Both, Exactly, absorbed, applied, joined, kept, met, narrowed, pair, paired, reduced, reduced_in}
+use Rattle.product.specs.Products.{Both, Exactly, absorbed, applied, joined, kept, met, narrowed, pair, paired, reduced}
 use Rattle.range.specs.Ranges as ranges
 use Rattle.range.proofs.Laws as range-laws
 use Rattle.tristate.specs.Tristates as bits
@@ -29,7 +31,7 @@ combined-met f g w hf hg = (
       (range-laws.common_keeps f.range g.range w hf.1 hg.1),
 )
 
-module _ {A B : Type 0} (a : Ghosts A) (b : Ghosts B) (la : Lawful a) (lb : Lawful b) where
+module _ {A B : Type 0} (a : Ghosts A) (b : Ghosts B) where
   -- ---- pairs
 
   paired-holds : (x : Option A) (y : Option B) (w : ℕ) → HoldsIn a.holds x w → HoldsIn b.holds y w → HoldsIn (Both a b) (paired x y) w
@@ -42,78 +44,78 @@ module _ {A B : Type 0} (a : Ghosts A) (b : Ghosts B) (la : Lawful a) (lb : Lawf
   paired-within (Some x) None w h = absurd h
   paired-within (Some x) (Some y) w h = h
 
-  -- ---- reduction loses no word, and brings none
+  -- ---- reduction loses no word, where each part's facts are met and what it absorbs loses none
 
-  met_holds : (x : A) (y : Option B) (w : ℕ) → Word w → a.holds x w → HoldsIn b.holds y w → HoldsIn (Both a b) (met a b x y) w
-  met_holds x None w hw h k = k
-  met_holds x (Some y) w hw h k =
-      paired-holds (a.absorbed x (b.told y)) (Some y) w (la.absorb_holds x (b.told y) w hw h (lb.facts_met y w hw k)) k
+  module _ (met_a : FactsMet a) (absorb_a : AbsorbHolds a) (met_b : FactsMet b) (absorb_b : AbsorbHolds b) where
+    met_holds : (x : A) (y : Option B) (w : ℕ) → Word w → a.holds x w → HoldsIn b.holds y w → HoldsIn (Both a b) (met a b x y) w
+    met_holds x None w hw h k = k
+    met_holds x (Some y) w hw h k =
+        paired-holds (a.absorbed x (b.told y)) (Some y) w (absorb_a x (b.told y) w hw h (met_b y w hw k)) k
 
-  met-within : (x : A) (y : Option B) (w : ℕ) → Word w → HoldsIn (Both a b) (met a b x y) w → a.holds x w × HoldsIn b.holds y w
-  met-within x None w hw h = absurd h
-  met-within x (Some y) w hw h =
-      let p = paired-within (a.absorbed x (b.told y)) (Some y) w h in (la.absorb_within x (b.told y) w hw p.0, p.1)
+    reduced-holds : (p : Product A B) (w : ℕ) → Word w → Both a b p w → HoldsIn (Both a b) (reduced a b p) w
+    reduced-holds p w hw h =
+        met_holds p.first (b.absorbed p.second (a.told p.first)) w hw h.0
+        (absorb_b p.second (a.told p.first) w hw h.1 (met_a p.first w hw h.0))
 
-  reduced-holds : (p : Product A B) (w : ℕ) → Word w → Both a b p w → HoldsIn (Both a b) (reduced a b p) w
-  reduced-holds p w hw h =
-      met_holds p.first (b.absorbed p.second (a.told p.first)) w hw h.0
-      (lb.absorb_holds p.second (a.told p.first) w hw h.1 (la.facts_met p.first w hw h.0))
+    kept-holds : (p : Product A B) (w : ℕ) → Word w → Both a b p w → Both a b (kept a b p) w
+    kept-holds p w hw h = held-or (Both a b) (reduced a b p) p w (reduced-holds p w hw h)
 
-  reduced-within : (p : Product A B) (w : ℕ) → Word w → HoldsIn (Both a b) (reduced a b p) w → Both a b p w
-  reduced-within p w hw h =
-      let q = met-within p.first (b.absorbed p.second (a.told p.first)) w hw h in
-      (q.0, lb.absorb_within p.second (a.told p.first) w hw q.1)
+    then-holds : (o : Option (Product A B)) (w : ℕ) → Word w → HoldsIn (Both a b) o w → HoldsIn (Both a b) (option_and_then (reduced a b) o) w
+    then-holds o w hw h = onward-holds (Both a b) (reduced a b) w o h (λ p hp. reduced-holds p w hw hp)
 
-  pub exactly : (p : Product A B) → Exactly a b p (reduced a b p)
-  exactly p w hw = (reduced-holds p w hw, reduced-within p w hw)
+    -- ---- so these laws are the parts' own
 
-  kept_of : (o : Option (Product A B)) (p : Product A B) (w : ℕ) → Both a b p w → HoldsIn (Both a b) o w → Both a b (unwrap_or o p) w
-  kept_of None p w h k = h
-  kept_of (Some q) p w h k = k
+    pub of_holds : OfHolds a → OfHolds b → (op : Operation) (p q : Product A B) (x y : ℕ) → Word x → Word y → Both a b p x → Both a b q y
+        → (Sticks op y → ⊥) → Both a b (applied a b op p q) (result_of op x y)
+    of_holds of_a of_b op p q x y hx hy hp hq ok =
+        kept-holds (pair (a.applied op p.first q.first) (b.applied op p.second q.second)) (result_of op x y) (result_word op x y hx hy)
+        (of_a op p.first q.first x y hx hy hp.0 hq.0 ok, of_b op p.second q.second x y hx hy hp.1 hq.1 ok)
 
-  kept-holds : (p : Product A B) (w : ℕ) → Word w → Both a b p w → Both a b (kept a b p) w
-  kept-holds p w hw h = kept_of (reduced a b p) p w h (reduced-holds p w hw h)
+    pub join_holds : JoinHolds a → JoinHolds b → (p q : Product A B) (w : ℕ) → Word w → Both a b p w ⊎ Both a b q w → Both a b (joined a b p q) w
+    join_holds join_a join_b p q w hw (inl h) =
+        kept-holds (pair (a.joined p.first q.first) (b.joined p.second q.second)) w hw
+        (join_a p.first q.first w hw (inl h.0), join_b p.second q.second w hw (inl h.1))
+    join_holds join_a join_b p q w hw (inr h) =
+        kept-holds (pair (a.joined p.first q.first) (b.joined p.second q.second)) w hw
+        (join_a p.first q.first w hw (inr h.0), join_b p.second q.second w hw (inr h.1))
 
-  reduced_in-holds : (o : Option (Product A B)) (w : ℕ) → Word w → HoldsIn (Both a b) o w → HoldsIn (Both a b) (reduced_in a b o) w
-  reduced_in-holds None w hw h = h
-  reduced_in-holds (Some p) w hw h = reduced-holds p w hw h
+    pub narrow_holds : NarrowHolds a → NarrowHolds b → (rel : Relation) (p q : Product A B) (x y : ℕ) → Word x → Word y → Both a b p x
+        → Both a b q y → Related rel x y → HoldsIn (Both a b) (narrowed a b rel p q) x
+    narrow_holds narrow_a narrow_b rel p q x y hx hy hp hq r =
+        then-holds (paired (a.narrowed rel p.first q.first) (b.narrowed rel p.second q.second)) x hx
+        (paired-holds (a.narrowed rel p.first q.first) (b.narrowed rel p.second q.second) x
+        (narrow_a rel p.first q.first x y hx hy hp.0 hq.0 r) (narrow_b rel p.second q.second x y hx hy hp.1 hq.1 r))
 
-  reduced_in-within : (o : Option (Product A B)) (w : ℕ) → Word w → HoldsIn (Both a b) (reduced_in a b o) w → HoldsIn (Both a b) o w
-  reduced_in-within None w hw h = h
-  reduced_in-within (Some p) w hw h = reduced-within p w hw h
+    pub absorb_holds : (p : Product A B) (f : Facts) (w : ℕ) → Word w → Both a b p w → Meets f w → HoldsIn (Both a b) (absorbed a b p f) w
+    absorb_holds p f w hw h m =
+        then-holds (paired (a.absorbed p.first f) (b.absorbed p.second f)) w hw
+        (paired-holds (a.absorbed p.first f) (b.absorbed p.second f) w (absorb_a p.first f w hw h.0 m) (absorb_b p.second f w hw h.1 m))
 
-  -- ---- the laws
+  -- ---- and it brings no word, where what each part absorbs brings none
 
-  pub of_holds : (op : Operation) (p q : Product A B) (x y : ℕ) → Word x → Word y → Both a b p x → Both a b q y → (Sticks op y → ⊥)
-      → Both a b (applied a b op p q) (result_of op x y)
-  of_holds op p q x y hx hy hp hq ok =
-      kept-holds (pair (a.applied op p.first q.first) (b.applied op p.second q.second)) (result_of op x y) (result_word op x y hx hy)
-      (la.of_holds op p.first q.first x y hx hy hp.0 hq.0 ok, lb.of_holds op p.second q.second x y hx hy hp.1 hq.1 ok)
+  module _ (within_a : AbsorbWithin a) (within_b : AbsorbWithin b) where
+    met-within : (x : A) (y : Option B) (w : ℕ) → Word w → HoldsIn (Both a b) (met a b x y) w → a.holds x w × HoldsIn b.holds y w
+    met-within x None w hw h = absurd h
+    met-within x (Some y) w hw h =
+        let p = paired-within (a.absorbed x (b.told y)) (Some y) w h in (within_a x (b.told y) w hw p.0, p.1)
 
-  pub join_holds : (p q : Product A B) (w : ℕ) → Word w → Both a b p w ⊎ Both a b q w → Both a b (joined a b p q) w
-  join_holds p q w hw (inl h) =
-      kept-holds (pair (a.joined p.first q.first) (b.joined p.second q.second)) w hw
-      (la.join_holds p.first q.first w hw (inl h.0), lb.join_holds p.second q.second w hw (inl h.1))
-  join_holds p q w hw (inr h) =
-      kept-holds (pair (a.joined p.first q.first) (b.joined p.second q.second)) w hw
-      (la.join_holds p.first q.first w hw (inr h.0), lb.join_holds p.second q.second w hw (inr h.1))
+    reduced-within : (p : Product A B) (w : ℕ) → Word w → HoldsIn (Both a b) (reduced a b p) w → Both a b p w
+    reduced-within p w hw h =
+        let q = met-within p.first (b.absorbed p.second (a.told p.first)) w hw h in
+        (q.0, within_b p.second (a.told p.first) w hw q.1)
 
-  pub narrow_holds : (rel : Relation) (p q : Product A B) (x y : ℕ) → Word x → Word y → Both a b p x → Both a b q y → Related rel x y
-      → HoldsIn (Both a b) (narrowed a b rel p q) x
-  narrow_holds rel p q x y hx hy hp hq r =
-      reduced_in-holds (paired (a.narrowed rel p.first q.first) (b.narrowed rel p.second q.second)) x hx
-      (paired-holds (a.narrowed rel p.first q.first) (b.narrowed rel p.second q.second) x
-      (la.narrow_holds rel p.first q.first x y hx hy hp.0 hq.0 r)
-      (lb.narrow_holds rel p.second q.second x y hx hy hp.1 hq.1 r))
+    then-within : (o : Option (Product A B)) (w : ℕ) → Word w → HoldsIn (Both a b) (option_and_then (reduced a b) o) w → HoldsIn (Both a b) o w
+    then-within o w hw h = onward-within (Both a b) (reduced a b) w o h (λ p hp. reduced-within p w hw hp)
 
-  pub absorb_holds : (p : Product A B) (f : Facts) (w : ℕ) → Word w → Both a b p w → Meets f w → HoldsIn (Both a b) (absorbed a b p f) w
-  absorb_holds p f w hw h m =
-      reduced_in-holds (paired (a.absorbed p.first f) (b.absorbed p.second f)) w hw
-      (paired-holds (a.absorbed p.first f) (b.absorbed p.second f) w (la.absorb_holds p.first f w hw h.0 m)
-      (lb.absorb_holds p.second f w hw h.1 m))
+    pub absorb_within : (p : Product A B) (f : Facts) (w : ℕ) → Word w → HoldsIn (Both a b) (absorbed a b p f) w → Both a b p w
+    absorb_within p f w hw h =
+        let q = paired-within (a.absorbed p.first f) (b.absorbed p.second f) w
+        (then-within (paired (a.absorbed p.first f) (b.absorbed p.second f)) w hw h) in
+        (within_a p.first f w hw q.0, within_b p.second f w hw q.1)
 
-  pub absorb_within : (p : Product A B) (f : Facts) (w : ℕ) → Word w → HoldsIn (Both a b) (absorbed a b p f) w → Both a b p w
-  absorb_within p f w hw h =
-      let q = paired-within (a.absorbed p.first f) (b.absorbed p.second f) w
-      (reduced_in-within (paired (a.absorbed p.first f) (b.absorbed p.second f)) w hw h) in
-      (la.absorb_within p.first f w hw q.0, lb.absorb_within p.second f w hw q.1)
+  pub exactly : FactsMet a → AbsorbHolds a → FactsMet b → AbsorbHolds b → AbsorbWithin a → AbsorbWithin b
+      → (p : Product A B) → Exactly a b p (reduced a b p)
+  exactly met_a absorb_a met_b absorb_b within_a within_b p w hw = (
+    reduced-holds met_a absorb_a met_b absorb_b p w hw,
+    reduced-within within_a within_b p w hw,
+  )

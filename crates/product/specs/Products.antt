@@ -1,6 +1,6 @@
 -- A product of two domains: the words that both parts hold, and the answer to each question.
 use Rattle.std.specs.Prelude.{ℕ, Bool, ◌&&◌, Some, None, Option}
-use Rattle.std.specs.Option.{unwrap_or}
+use Rattle.std.specs.Option.{option_and_then, unwrap_or}
 use Rattle.domain.specs.declared.domain.Domain.{Ghosts}
 use Rattle.domain.specs.declared.facts.Facts.{Facts}
 use Rattle.domain.specs.Facts.{combined}
@@ -33,10 +33,6 @@ module _ {A B : Type 0} (a : Ghosts A) (b : Ghosts B) where
   abbrev pub reduced : Product A B → Option (Product A B)
   reduced p = met p.first (b.absorbed p.second (a.told p.first))
 
-  abbrev pub reduced_in : Option (Product A B) → Option (Product A B)
-  reduced_in None = None
-  reduced_in (Some p) = reduced p
-
   -- the reduced pair holds just the words that both parts held: it is none only if there is no such word
   abbrev pub Exactly : Product A B → Option (Product A B) → Type 0
   Exactly p r = (w : ℕ) → Word w → (Both p w → HoldsIn Both r w) × (HoldsIn Both r w → Both p w)
@@ -66,10 +62,10 @@ module _ {A B : Type 0} (a : Ghosts A) (b : Ghosts B) where
   joined p q = kept (pair (a.joined p.first q.first) (b.joined p.second q.second))
 
   abbrev pub narrowed : Relation → Product A B → Product A B → Option (Product A B)
-  narrowed rel p q = reduced_in (paired (a.narrowed rel p.first q.first) (b.narrowed rel p.second q.second))
+  narrowed rel p q = option_and_then reduced (paired (a.narrowed rel p.first q.first) (b.narrowed rel p.second q.second))
 
   abbrev pub told : Product A B → Facts
   told p = combined (a.told p.first) (b.told p.second)
 
   abbrev pub absorbed : Product A B → Facts → Option (Product A B)
-  absorbed p f = reduced_in (paired (a.absorbed p.first f) (b.absorbed p.second f))
+  absorbed p f = option_and_then reduced (paired (a.absorbed p.first f) (b.absorbed p.second f))

@@ -3,11 +3,10 @@
 #![tactic(auto)]
 
 ghost use Rattle.std.specs.Prelude.{◌≡◌};
-ghost use Rattle.product.specs.Products.{Both, Exactly, absorbed, applied, every, joined, kept, member, narrowed, paired, reduced, reduced_in, single, told, under};
+ghost use Rattle.product.specs.Products.{Both, Exactly, absorbed, applied, every, joined, kept, member, narrowed, reduced, single, told, under};
 ghost use Rattle.product.specs.Laws as ProductLaws;
 ghost use Rattle.product.specs.Laws.{combined-met};
 ghost use Rattle.std.proofs.lemmas.Bool.Decides.{Decides-and};
-ghost use Rattle.domain.specs.Lawful.{lawful};
 
 use domain::{Domain, Facts};
 use range::Range;
@@ -15,7 +14,7 @@ use tristate::Tristate;
 use words::{Operation, Relation, Width};
 
 /// The words that both parts hold.
-#[derive(Clone, Copy)]
+#[derive(Clone, Copy, PartialEq, Eq, Debug)]
 pub struct Product<A, B> {
     pub first: A,
     pub second: B,
@@ -30,13 +29,6 @@ impl<A: Domain, B: Domain> Product<A, B> {
         ensures value { result ≡ reduced A.Domain B.Domain self }
         ensures exact { Exactly A.Domain B.Domain self result }
     {
-        self.sharpened()
-    }
-
-    /// What `reduce` answers, step by step.
-    fn sharpened(self) -> Option<Product<A, B>>
-        ensures { result ≡ reduced A.Domain B.Domain self }
-    {
         let second = self.second.absorb(self.first.facts())?;
         let first = self.first.absorb(second.facts())?;
         Some(Product { first, second })
@@ -46,21 +38,7 @@ impl<A: Domain, B: Domain> Product<A, B> {
     fn kept(self) -> Product<A, B>
         ensures { result ≡ kept A.Domain B.Domain self }
     {
-        match self.reduce() {
-            Some(reduced) => reduced,
-            None => self,
-        }
-    }
-}
-
-/// Both parts reduced, where both are there.
-fn reduced_of<A: Domain, B: Domain>(first: Option<A>, second: Option<B>) -> Option<Product<A, B>>
-    ensures { result ≡ reduced_in A.Domain B.Domain (paired first second) }
-{
-    match (first, second) {
-        (Some(first), Some(second)) => Product { first, second }.reduce(),
-        (Some(_), None) => None,
-        (None, _) => None,
+        self.reduce().unwrap_or(self)
     }
 }
 
@@ -95,37 +73,22 @@ impl<A: Domain, B: Domain> Domain for Product<A, B> {
         Decides-and (A.member p.first w) (B.member p.second w) (A.has_decides p.first w hw) (B.has_decides p.second w hw) };
 
     ghost of_holds = { ProductLaws.of_holds A.Domain.own B.Domain.own
-        (lawful A.Domain.own A.any_holds A.only_holds A.low_holds A.has_decides A.of_holds
-        A.join_holds A.narrow_holds A.facts_met A.absorb_holds A.absorb_within)
-        (lawful B.Domain.own B.any_holds B.only_holds B.low_holds B.has_decides B.of_holds
-        B.join_holds B.narrow_holds B.facts_met B.absorb_holds B.absorb_within) };
+        A.facts_met A.absorb_holds B.facts_met B.absorb_holds A.of_holds B.of_holds };
 
     ghost join_holds = { ProductLaws.join_holds A.Domain.own B.Domain.own
-        (lawful A.Domain.own A.any_holds A.only_holds A.low_holds A.has_decides A.of_holds
-        A.join_holds A.narrow_holds A.facts_met A.absorb_holds A.absorb_within)
-        (lawful B.Domain.own B.any_holds B.only_holds B.low_holds B.has_decides B.of_holds
-        B.join_holds B.narrow_holds B.facts_met B.absorb_holds B.absorb_within) };
+        A.facts_met A.absorb_holds B.facts_met B.absorb_holds A.join_holds B.join_holds };
 
     ghost narrow_holds = { ProductLaws.narrow_holds A.Domain.own B.Domain.own
-        (lawful A.Domain.own A.any_holds A.only_holds A.low_holds A.has_decides A.of_holds
-        A.join_holds A.narrow_holds A.facts_met A.absorb_holds A.absorb_within)
-        (lawful B.Domain.own B.any_holds B.only_holds B.low_holds B.has_decides B.of_holds
-        B.join_holds B.narrow_holds B.facts_met B.absorb_holds B.absorb_within) };
+        A.facts_met A.absorb_holds B.facts_met B.absorb_holds A.narrow_holds B.narrow_holds };
 
     ghost facts_met = { λ p w hw h.
         combined-met (A.told p.first) (B.told p.second) w (A.facts_met p.first w hw h.0) (B.facts_met p.second w hw h.1) };
 
     ghost absorb_holds = { ProductLaws.absorb_holds A.Domain.own B.Domain.own
-        (lawful A.Domain.own A.any_holds A.only_holds A.low_holds A.has_decides A.of_holds
-        A.join_holds A.narrow_holds A.facts_met A.absorb_holds A.absorb_within)
-        (lawful B.Domain.own B.any_holds B.only_holds B.low_holds B.has_decides B.of_holds
-        B.join_holds B.narrow_holds B.facts_met B.absorb_holds B.absorb_within) };
+        A.facts_met A.absorb_holds B.facts_met B.absorb_holds };
 
     ghost absorb_within = { ProductLaws.absorb_within A.Domain.own B.Domain.own
-        (lawful A.Domain.own A.any_holds A.only_holds A.low_holds A.has_decides A.of_holds
-        A.join_holds A.narrow_holds A.facts_met A.absorb_holds A.absorb_within)
-        (lawful B.Domain.own B.any_holds B.only_holds B.low_holds B.has_decides B.of_holds
-        B.join_holds B.narrow_holds B.facts_met B.absorb_holds B.absorb_within) };
+        A.absorb_within B.absorb_within };
 
     fn any() -> Self {
         Product {
@@ -165,9 +128,9 @@ impl<A: Domain, B: Domain> Domain for Product<A, B> {
     }
 
     fn narrow(self, relation: Relation, other: Self) -> Option<Self> {
-        let first = self.first.narrow(relation, other.first);
-        let second = self.second.narrow(relation, other.second);
-        reduced_of(first, second)
+        let first = self.first.narrow(relation, other.first)?;
+        let second = self.second.narrow(relation, other.second)?;
+        Product { first, second }.reduce()
     }
 
     fn facts(self) -> Facts {
@@ -175,6 +138,8 @@ impl<A: Domain, B: Domain> Domain for Product<A, B> {
     }
 
     fn absorb(self, facts: Facts) -> Option<Self> {
-        reduced_of(self.first.absorb(facts), self.second.absorb(facts))
+        let first = self.first.absorb(facts)?;
+        let second = self.second.absorb(facts)?;
+        Product { first, second }.reduce()
     }
 }

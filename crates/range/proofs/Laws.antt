@@ -2,6 +2,7 @@
 use Rattle.std.proofs.Common.{◌≡◌, ℕ, ◌+◌, ◌-◌, ◌*◌, ◌^◌, ◌≤◌, min, max, Bool, true, false, cond, eqb, ltb, leb, Some, None, Option, sym, refl, subst, div-le_self, arith, pow_pos, pow_mono, ltb-true, eqb-true, le-leb, leb-true}
 use lib.Bits.{bit_xor, and_le_l, and_le_r}
 use lib.Pow.{shr_le}
+use Rattle.std.proofs.lemmas.Bool.{cond_both}
 use Rattle.std.proofs.lemmas.Nat.{mul-le}
 use Rattle.range.specs.declared.Range.{Range}
 use Rattle.range.specs.Answers.{applied, narrowed}
@@ -20,8 +21,7 @@ use Rattle.words.proofs.Results.{result_word}
 
 -- where the test fails the answer is every word
 under : (t : Bool) (r : Range) (x : ℕ) → Word x → (t ≡ true → Within r x) → Within (cond t r full) x
-under true r x hx h = h refl
-under false r x hx h = omega arith
+under t r x hx h = cond_both t r full (λ (q : Range). Within q x) h (λ _. omega arith)
 
 -- ---- the operations
 
@@ -69,34 +69,27 @@ common-within a b x e = by (leb l h) (leb-true l h) e
 
 -- ---- the cuts
 
-some_or : (t : Bool) (o : Option Range) (x : ℕ) → (t ≡ true → ⊥) → HoldsIn Within o x → HoldsIn Within (cond t None o) x
-some_or true o x h e = absurd (h refl)
-some_or false o x h e = e
+chosen : (t : Bool) (o p : Option Range) (x : ℕ) → (t ≡ true → HoldsIn Within o x) → (t ≡ false → HoldsIn Within p x)
+    → HoldsIn Within (cond t o p) x
+chosen t o p x first second = cond_both t o p (λ (q : Option Range). HoldsIn Within q x) first second
 
 without-holds : (a : Range) (w x : ℕ) → Within a x → (x ≡ w → ⊥) → HoldsIn Within (without a w) x
-without-holds a w x e ne = low (eqb (least a) w) (eqb-true (least a) w)
-  where
-    high : (t : Bool) → (t ≡ true → most a ≡ w) → HoldsIn Within (cond t (between (least a) (w - 1)) (Some (reading a))) x
-    high true is = between-holds (least a) (w - 1) x (omega arith) (omega (arith, is refl))
-    high false is = omega arith
-
-    low : (t : Bool) → (t ≡ true → least a ≡ w)
-        → HoldsIn Within (cond t (between (w + 1) (most a)) (cond (eqb (most a) w) (between (least a) (w - 1)) (Some (reading a)))) x
-    low true is = between-holds (w + 1) (most a) x (omega (arith, is refl)) (omega arith)
-    low false is = high (eqb (most a) w) (eqb-true (most a) w)
-
-unequal_holds : (t : Bool) (a : Range) (w x : ℕ) → Within a x → (t ≡ true → x ≡ w → ⊥) → HoldsIn Within (cond t (without a w) (Some (reading a))) x
-unequal_holds true a w x e ne = without-holds a w x e (ne refl)
-unequal_holds false a w x e ne = omega arith
+without-holds a w x e ne =
+    chosen (eqb (least a) w) (between (w + 1) (most a)) (cond (eqb (most a) w) (between (least a) (w - 1)) (Some (reading a))) x
+    (λ at. let low : least a ≡ w = eqb-true (least a) w at in between-holds (w + 1) (most a) x (omega arith) (omega arith))
+    (λ _. chosen (eqb (most a) w) (between (least a) (w - 1)) (Some (reading a)) x
+    (λ at. let high : most a ≡ w = eqb-true (most a) w at in between-holds (least a) (w - 1) x (omega arith) (omega arith))
+    (λ _. omega arith))
 
 pub narrowed-holds : (rel : Relation) (a b : Range) (x y : ℕ) → Word x → Word y → Within a x → Within b y → Related rel x y
     → HoldsIn Within (narrowed rel a b) x
 narrowed-holds Equal a b x y hx hy ea eb r = common_keeps a b x ea (subst (λ (k : ℕ). Within b k) (sym r) eb)
 narrowed-holds Unequal a b x y hx hy ea eb r =
-    unequal_holds (single b) a (least b) x ea (λ one at. r (omega (arith, eqb-true (least b) (most b) one)))
+    chosen (single b) (without a (least b)) (Some (reading a)) x
+    (λ one. without-holds a (least b) x ea (λ at. r (omega (arith, eqb-true (least b) (most b) one)))) (λ _. omega arith)
 narrowed-holds Less a b x y hx hy ea eb r =
-    some_or (eqb (most b) 0) (between (least a) (min (most a) (most b - 1))) x (λ z. omega (arith, eqb-true (most b) 0 z))
-    (between-holds (least a) (min (most a) (most b - 1)) x (omega arith) (omega arith))
+    chosen (eqb (most b) 0) None (between (least a) (min (most a) (most b - 1))) x (λ z. omega (arith, eqb-true (most b) 0 z))
+    (λ _. between-holds (least a) (min (most a) (most b - 1)) x (omega arith) (omega arith))
 narrowed-holds LessOrEqual a b x y hx hy ea eb r = between-holds (least a) (min (most a) (most b)) x (omega arith) (omega arith)
 narrowed-holds Greater a b x y hx hy ea eb r = between-holds (max (least a) (least b + 1)) (most a) x (omega arith) (omega arith)
 narrowed-holds GreaterOrEqual a b x y hx hy ea eb r = between-holds (max (least a) (least b)) (most a) x (omega arith) (omega arith)

@@ -38,6 +38,10 @@ front k = range 0 (2 ^ k - 1)
 abbrev pub single : Range → Bool
 single r = least r == most r
 
+-- the word that is held, if it is just one
+abbrev pub word : Range → Option ℕ
+word r = cond (single r) (Some (least r)) None
+
 -- is this word held?
 abbrev pub member : Range → ℕ → Bool
 member r w = nat_le (least r) w && nat_le w (most r)

@@ -3,8 +3,9 @@
 
 ghost use Rattle.std.specs.Prelude.{◌≡◌, ◌-◌, ◌^◌};
 ghost use Rattle.words.specs.Words.{length_of};
-ghost use Rattle.range.specs.Ranges.{above, below, between, common, conjunction, difference, disjunction, full, least, most, no_more, on_from, product, reach, reading, single, span, sum, up_to, without};
+ghost use Rattle.range.specs.Ranges.{above, below, between, common, conjunction, difference, disjunction, least, most, no_more, on_from, product, reach, reading, single, span, sum, up_to, without, word};
 
+use std::ops::{Add, BitAnd, BitOr, Mul, Sub};
 use tristate::Tristate;
 
 /// Any two words, which are the ends of the range, in either order.
@@ -18,31 +19,22 @@ pub struct Range {
 fn between(low: u64, high: u64) -> Option<Range>
     ensures { result ≡ between low high }
 {
-    if low <= high {
-        Some(Range { low, high })
-    } else {
-        None
-    }
+    (low <= high).then_some(Range { low, high })
 }
 
 /// Every bit up to the highest that is set.
 fn filled(word: u64) -> u64
     ensures { result ≡ 2 ^ length_of word - 1 }
 {
-    let leading = word.leading_zeros();
-    if leading < 64 { u64::MAX >> leading } else { 0 }
+    u64::MAX.checked_shr(word.leading_zeros()).unwrap_or(0)
 }
 
 impl Range {
     /// Every word.
-    fn full() -> Range
-        ensures { result ≡ full }
-    {
-        Range {
-            low: 0,
-            high: u64::MAX,
-        }
-    }
+    pub const FULL: Range = Range {
+        low: 0,
+        high: u64::MAX,
+    };
 
     /// The least word held.
     pub fn least(self) -> u64
@@ -75,41 +67,11 @@ impl Range {
         self.least() == self.most()
     }
 
-    pub fn add(self, other: Range) -> Range
-        ensures { result ≡ sum self other }
+    /// The word that is held, if it is just one.
+    pub fn word(self) -> Option<u64>
+        ensures { result ≡ word self }
     {
-        match self.most().checked_add(other.most()) {
-            Some(high) => Range {
-                low: self.least() + other.least(),
-                high,
-            },
-            None => Range::full(),
-        }
-    }
-
-    pub fn sub(self, other: Range) -> Range
-        ensures { result ≡ difference self other }
-    {
-        if other.most() <= self.least() {
-            Range {
-                low: self.least() - other.most(),
-                high: self.most() - other.least(),
-            }
-        } else {
-            Range::full()
-        }
-    }
-
-    pub fn mul(self, other: Range) -> Range
-        ensures { result ≡ product self other }
-    {
-        match self.most().checked_mul(other.most()) {
-            Some(most) => Range {
-                low: self.least() * other.least(),
-                high: most,
-            },
-            None => Range::full(),
-        }
+        self.is_single().then_some(self.least())
     }
 
     /// What a quotient by any word, or a shift to the right by any, can be.
@@ -118,24 +80,6 @@ impl Range {
     {
         let high = self.most();
         Range { low: 0, high }
-    }
-
-    pub fn and(self, other: Range) -> Range
-        ensures { result ≡ conjunction self other }
-    {
-        Range {
-            low: 0,
-            high: self.most().min(other.most()),
-        }
-    }
-
-    pub fn or(self, other: Range) -> Range
-        ensures { result ≡ disjunction self other }
-    {
-        Range {
-            low: self.least().max(other.least()),
-            high: u64::MAX,
-        }
     }
 
     /// What holds just the words that both hold.
@@ -151,11 +95,8 @@ impl Range {
     pub fn below(self, end: u64) -> Option<Range>
         ensures { result ≡ below self end }
     {
-        if end == 0 {
-            None
-        } else {
-            between(self.least(), self.most().min(end - 1))
-        }
+        let last = end.checked_sub(1)?;
+        between(self.least(), self.most().min(last))
     }
 
     /// The words up to `end`.
@@ -169,10 +110,8 @@ impl Range {
     pub fn above(self, end: u64) -> Option<Range>
         ensures { result ≡ above self end }
     {
-        match end.checked_add(1) {
-            Some(next) => between(self.least().max(next), self.most()),
-            None => None,
-        }
+        let next = end.checked_add(1)?;
+        between(self.least().max(next), self.most())
     }
 
     /// The words from `end` on.
@@ -196,6 +135,7 @@ impl Range {
     }
 
     /// From the least word that `bits` holds to the greatest.
+    // No `From`, since the words are not the same: those between that `bits` does not hold come in.
     pub fn reach(bits: Tristate) -> Range
         ensures { result ≡ reach bits }
     {
@@ -206,6 +146,7 @@ impl Range {
     }
 
     /// The bits that the two ends share, and so every word between them.
+    // No `From`, since the words are not the same: those outside that share the bits come in.
     pub fn span(self) -> Tristate
         ensures { result ≡ span self }
     {
@@ -213,6 +154,80 @@ impl Range {
         Tristate {
             value: self.least() & !mask,
             mask,
+        }
+    }
+}
+
+impl Add for Range {
+    type Output = Range;
+
+    ghost add_gives = { λ a b r. r ≡ sum a b };
+
+    fn add(self, other: Range) -> Range {
+        match self.most().checked_add(other.most()) {
+            Some(high) => Range {
+                low: self.least() + other.least(),
+                high,
+            },
+            None => Range::FULL,
+        }
+    }
+}
+
+impl Sub for Range {
+    type Output = Range;
+
+    ghost sub_gives = { λ a b r. r ≡ difference a b };
+
+    fn sub(self, other: Range) -> Range {
+        match self.least().checked_sub(other.most()) {
+            Some(low) => Range {
+                low,
+                high: self.most() - other.least(),
+            },
+            None => Range::FULL,
+        }
+    }
+}
+
+impl Mul for Range {
+    type Output = Range;
+
+    ghost mul_gives = { λ a b r. r ≡ product a b };
+
+    fn mul(self, other: Range) -> Range {
+        match self.most().checked_mul(other.most()) {
+            Some(most) => Range {
+                low: self.least() * other.least(),
+                high: most,
+            },
+            None => Range::FULL,
+        }
+    }
+}
+
+impl BitAnd for Range {
+    type Output = Range;
+
+    ghost bitand_gives = { λ a b r. r ≡ conjunction a b };
+
+    fn bitand(self, other: Range) -> Range {
+        Range {
+            high: self.most().min(other.most()),
+            ..Range::FULL
+        }
+    }
+}
+
+impl BitOr for Range {
+    type Output = Range;
+
+    ghost bitor_gives = { λ a b r. r ≡ disjunction a b };
+
+    fn bitor(self, other: Range) -> Range {
+        Range {
+            low: self.least().max(other.least()),
+            ..Range::FULL
         }
     }
 }

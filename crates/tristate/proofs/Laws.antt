@@ -1,8 +1,9 @@
 -- What the formulas are for: each answer holds what it has to hold, and where it can be the smallest it is.
-use Rattle.std.proofs.Common.{◌≡◌, ℕ, ◌/◌, ◌%◌, ◌^◌, ◌<◌, ◌≤◌, Bool, true, false, cond, ◌&&◌, eqb, ltb, Some, None, sym, refl, ap, ◌∙◌, subst, arith, pow_pos, pow_mono, ltb-true, eq-eqb, eqb-true}
+use Rattle.std.proofs.Common.{◌≡◌, ℕ, ◌/◌, ◌%◌, ◌^◌, ◌<◌, ◌≤◌, Bool, true, false, cond, ◌&&◌, eqb, ltb, Some, None, Option, sym, refl, ap, ◌∙◌, subst, arith, pow_pos, pow_mono, ltb-true, eq-eqb, eqb-true}
 use native.Mathlib.Nat.{div-eq_of_lt}
 use lib.Bits.{bit_and, bit_or, bit_xor}
 use borrow.Author.Tests.{both_ways}
+use Rattle.std.proofs.lemmas.Bool.{cond_both}
 use Rattle.std.proofs.lemmas.Bool.Decides.{nat_tests}
 use Rattle.tristate.specs.declared.Tristate.{Tristate}
 use Rattle.tristate.specs.Answers.{applied, narrowed, Amount, Best, Smallest}
@@ -62,8 +63,7 @@ both_true false q e = (e, absurd (both_ways false refl e))
 
 -- where the test fails the answer is every word
 under : (t : Bool) (r : Tristate) (x : ℕ) → (t ≡ true → Holds r x) → Holds (cond t r full) x
-under true r x h = h refl
-under false r x h = full-holds x
+under t r x h = cond_both t r full (λ (q : Tristate). Holds q x) h (λ _. full-holds x)
 
 single-none : (t : Tristate) → single t ≡ true → unknown t ≡ 0
 single-none t e = eqb-true (unknown t) 0 e
@@ -221,15 +221,12 @@ equal_singles a b x y hx hy ea eb e =
     let q = both_true (single b) (eqb (known a) (known b)) p.1 in
     single-is a x hx (single-none a p.0) ea ∙ eqb-true (known a) (known b) q.1 ∙ sym (single-is b y hy (single-none b q.0) eb)
 
-unless : (t : Bool) (r : Tristate) (x : ℕ) → (t ≡ true → ⊥) → Holds r x → HoldsIn Holds (cond t None (Some r)) x
-unless true r x h e = h refl
-unless false r x h e = e
-
 pub narrowed-holds : (rel : Relation) (a b : Tristate) (x y : ℕ) → Word x → Word y → Holds a x → Holds b y → Related rel x y
     → HoldsIn Holds (narrowed rel a b) x
 narrowed-holds Equal a b x y hx hy ea eb r = common_keeps a b x ea (subst (λ (k : ℕ). Holds b k) (sym r) eb)
 narrowed-holds Unequal a b x y hx hy ea eb r =
-    unless (single a && (single b && eqb (known a) (known b))) (reading a) x (λ e. r (equal_singles a b x y hx hy ea eb e)) (reading-holds a x ea)
+    cond_both (single a && (single b && eqb (known a) (known b))) None (Some (reading a)) (λ (o : Option Tristate). HoldsIn Holds o x)
+    (λ e. r (equal_singles a b x y hx hy ea eb e)) (λ _. reading-holds a x ea)
 narrowed-holds Less a b x y hx hy ea eb r = reading-holds a x ea
 narrowed-holds LessOrEqual a b x y hx hy ea eb r = reading-holds a x ea
 narrowed-holds Greater a b x y hx hy ea eb r = reading-holds a x ea

@@ -41,6 +41,10 @@ front k = record { value = 0; mask = 2 ^ k - 1 }
 abbrev pub single : Tristate → Bool
 single t = unknown t == 0
 
+-- the word that is held, if it is just one
+abbrev pub word : Tristate → Option ℕ
+word t = cond (single t) (Some (known t)) None
+
 -- the greatest word held; the least is `known t`
 abbrev pub most : Tristate → ℕ
 most t = bit_or (known t) (unknown t)
@@ -81,6 +85,9 @@ exclusion a b = lawful (bit_xor (known a) (known b)) (either_unknown a b)
 -- one word of at most 63
 abbrev pub amount : Tristate → Bool
 amount t = single t && nat_lt (known t) 64
+
+abbrev pub shift_amount : Tristate → Option ℕ
+shift_amount t = cond (amount t) (Some (known t)) None
 
 -- a shift moves the known bits and the unknown ones alike
 abbrev pub moved : (ℕ → ℕ) → Tristate → Tristate

@@ -4,7 +4,9 @@
 #![tactic(auto)]
 
 ghost use Rattle.std.specs.Prelude.{◌≡◌};
-ghost use Rattle.tristate.specs.Tristates.{common, conjunction, difference, disjunction, exclusion, full, known, most, only, product, quotient, reading, shifted_left, shifted_right, single, sum, unknown};
+ghost use Rattle.tristate.specs.Tristates.{common, conjunction, difference, disjunction, exclusion, known, most, only, product, quotient, reading, shift_amount, shifted_left, shifted_right, single, sum, unknown, word};
+
+use std::ops::{Add, BitAnd, BitOr, BitXor, Div, Mul, Shl, Shr, Sub};
 
 /// Any two words. The bits of `mask` are unknown, and the others are those of `value`: the bits
 /// that `value` and `mask` share count as unknown.
@@ -16,24 +18,10 @@ pub struct Tristate {
 
 impl Tristate {
     /// Every word.
-    fn full() -> Tristate
-        ensures { result ≡ full }
-    {
-        Tristate {
-            value: 0,
-            mask: u64::MAX,
-        }
-    }
-
-    /// One word.
-    fn single(word: u64) -> Tristate
-        ensures { result ≡ only word }
-    {
-        Tristate {
-            value: word,
-            mask: 0,
-        }
-    }
+    pub const FULL: Tristate = Tristate {
+        value: 0,
+        mask: u64::MAX,
+    };
 
     /// The bits that are known to be set, which is the least word held.
     pub fn known(self) -> u64
@@ -74,9 +62,51 @@ impl Tristate {
         self.unknown() == 0
     }
 
-    pub fn add(self, other: Tristate) -> Tristate
-        ensures { result ≡ sum self other }
+    /// The word that is held, if it is just one.
+    pub fn word(self) -> Option<u64>
+        ensures { result ≡ word self }
     {
+        self.is_single().then_some(self.known())
+    }
+
+    /// The word that is held, if it is just one and at most 63.
+    fn shift_amount(self) -> Option<u64>
+        ensures { result ≡ shift_amount self }
+    {
+        self.word().filter(|word| *word < 64)
+    }
+
+    /// What holds just the words that both hold.
+    pub fn common(self, other: Tristate) -> Option<Tristate>
+        ensures { result ≡ common self other }
+    {
+        // the bits known on both sides that differ: no word has both
+        let apart = (self.known() ^ other.known()) & !(self.unknown() | other.unknown());
+        (apart == 0).then_some(Tristate {
+            value: self.known() | other.known(),
+            mask: self.unknown() & other.unknown(),
+        })
+    }
+}
+
+/// One word.
+impl From<u64> for Tristate {
+    ghost from_gives = { λ w t. t ≡ only w };
+
+    fn from(word: u64) -> Tristate {
+        Tristate {
+            value: word,
+            mask: 0,
+        }
+    }
+}
+
+impl Add for Tristate {
+    type Output = Tristate;
+
+    ghost add_gives = { λ a b r. r ≡ sum a b };
+
+    fn add(self, other: Tristate) -> Tristate {
         // the least sum
         let s = self.known().wrapping_add(other.known());
         // the greatest: it takes every carry that any sum takes
@@ -89,10 +119,14 @@ impl Tristate {
             mask,
         }
     }
+}
 
-    pub fn sub(self, other: Tristate) -> Tristate
-        ensures { result ≡ difference self other }
-    {
+impl Sub for Tristate {
+    type Output = Tristate;
+
+    ghost sub_gives = { λ a b r. r ≡ difference a b };
+
+    fn sub(self, other: Tristate) -> Tristate {
         let d = self.known().wrapping_sub(other.known());
         // the greatest difference, and the least
         let alpha = d.wrapping_add(self.unknown());
@@ -105,10 +139,14 @@ impl Tristate {
             mask,
         }
     }
+}
 
-    pub fn and(self, other: Tristate) -> Tristate
-        ensures { result ≡ conjunction self other }
-    {
+impl BitAnd for Tristate {
+    type Output = Tristate;
+
+    ghost bitand_gives = { λ a b r. r ≡ conjunction a b };
+
+    fn bitand(self, other: Tristate) -> Tristate {
         // the bits that can be set on either side
         let alpha = self.known() | self.unknown();
         let beta = other.known() | other.unknown();
@@ -118,91 +156,93 @@ impl Tristate {
             mask: (alpha & beta) & !value,
         }
     }
+}
 
-    pub fn or(self, other: Tristate) -> Tristate
-        ensures { result ≡ disjunction self other }
-    {
+impl BitOr for Tristate {
+    type Output = Tristate;
+
+    ghost bitor_gives = { λ a b r. r ≡ disjunction a b };
+
+    fn bitor(self, other: Tristate) -> Tristate {
         let value = self.known() | other.known();
         // a bit known to be set on one side is set, whatever the other's
         let mask = (self.unknown() | other.unknown()) & !value;
         Tristate { value, mask }
     }
+}
 
-    pub fn xor(self, other: Tristate) -> Tristate
-        ensures { result ≡ exclusion self other }
-    {
+impl BitXor for Tristate {
+    type Output = Tristate;
+
+    ghost bitxor_gives = { λ a b r. r ≡ exclusion a b };
+
+    fn bitxor(self, other: Tristate) -> Tristate {
         let mask = self.unknown() | other.unknown();
         Tristate {
             value: (self.known() ^ other.known()) & !mask,
             mask,
         }
     }
+}
 
-    /// Every word, where the amount is not one word of at most 63.
-    pub fn shl(self, by: Tristate) -> Tristate
-        ensures { result ≡ shifted_left self by }
-    {
-        if by.is_single() && by.known() < 64 {
-            let s = by.known();
-            Tristate {
+/// Every word, where the amount is not one word of at most 63.
+impl Shl for Tristate {
+    type Output = Tristate;
+
+    ghost shl_gives = { λ a b r. r ≡ shifted_left a b };
+
+    fn shl(self, by: Tristate) -> Tristate {
+        match by.shift_amount() {
+            Some(s) => Tristate {
                 value: self.known() << s,
                 mask: self.unknown() << s,
-            }
-        } else {
-            Tristate::full()
+            },
+            None => Tristate::FULL,
         }
     }
+}
 
-    /// Every word, where the amount is not one word of at most 63.
-    pub fn shr(self, by: Tristate) -> Tristate
-        ensures { result ≡ shifted_right self by }
-    {
-        if by.is_single() && by.known() < 64 {
-            let s = by.known();
-            Tristate {
+/// Every word, where the amount is not one word of at most 63.
+impl Shr for Tristate {
+    type Output = Tristate;
+
+    ghost shr_gives = { λ a b r. r ≡ shifted_right a b };
+
+    fn shr(self, by: Tristate) -> Tristate {
+        match by.shift_amount() {
+            Some(s) => Tristate {
                 value: self.known() >> s,
                 mask: self.unknown() >> s,
-            }
-        } else {
-            Tristate::full()
+            },
+            None => Tristate::FULL,
         }
     }
+}
 
-    /// Exact for two single words.
-    pub fn mul(self, other: Tristate) -> Tristate
-        ensures { result ≡ product self other }
-    {
-        if self.is_single() && other.is_single() {
-            Tristate::single(self.known().wrapping_mul(other.known()))
-        } else {
-            Tristate::full()
+/// Exact for two single words.
+impl Mul for Tristate {
+    type Output = Tristate;
+
+    ghost mul_gives = { λ a b r. r ≡ product a b };
+
+    fn mul(self, other: Tristate) -> Tristate {
+        match (self.word(), other.word()) {
+            (Some(a), Some(b)) => Tristate::from(a.wrapping_mul(b)),
+            _ => Tristate::FULL,
         }
     }
+}
 
-    /// Exact for two single words, the second above 0.
-    pub fn div(self, other: Tristate) -> Tristate
-        ensures { result ≡ quotient self other }
-    {
-        if self.is_single() && other.is_single() && other.known() > 0 {
-            Tristate::single(self.known() / other.known())
-        } else {
-            Tristate::full()
-        }
-    }
+/// Exact for two single words, the second above 0.
+impl Div for Tristate {
+    type Output = Tristate;
 
-    /// What holds just the words that both hold.
-    pub fn common(self, other: Tristate) -> Option<Tristate>
-        ensures { result ≡ common self other }
-    {
-        // the bits known on both sides that differ: no word has both
-        let apart = (self.known() ^ other.known()) & !(self.unknown() | other.unknown());
-        if apart == 0 {
-            Some(Tristate {
-                value: self.known() | other.known(),
-                mask: self.unknown() & other.unknown(),
-            })
-        } else {
-            None
+    ghost div_gives = { λ a b r. r ≡ quotient a b };
+
+    fn div(self, other: Tristate) -> Tristate {
+        match (self.word(), other.word()) {
+            (Some(a), Some(b)) if b > 0 => Tristate::from(a / b),
+            _ => Tristate::FULL,
         }
     }
 }

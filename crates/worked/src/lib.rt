@@ -11,7 +11,7 @@ use tristate::Tristate;
 use words::{Operation, Relation};
 
 /// The answers, in the order of the examples.
-#[derive(Clone, Copy)]
+#[derive(Clone, Copy, PartialEq, Eq, Debug)]
 pub struct Worked {
     pub sum: Tristate,
     pub difference: Tristate,
@@ -38,10 +38,7 @@ pub fn answers() -> Worked
         difference: Tristate::of(Operation::Sub, eight_or_ten, nine_or_eleven),
         unlike: Tristate::of(Operation::Xor, four_or_five, one_or_three),
         span: Range { low: 9, high: 11 }.span(),
-        joined: Tristate { value: 17, mask: 0 }.join(Tristate {
-            value: 166,
-            mask: 0,
-        }),
+        joined: Tristate::only(17).join(Tristate::only(166)),
         wrapped: Range::of(
             Operation::Add,
             Range { low: 8, high: 64 },

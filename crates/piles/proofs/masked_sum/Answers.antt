@@ -1,5 +1,5 @@
 -- From the laws of whichever domain it is.
-use Rattle.std.proofs.Common.{ℕ, arith, sym, subst}
+use Rattle.std.proofs.Common.{◌≡◌, ℕ, arith, rules, sym, subst}
 use Rattle.words.specs.declared.operation.Operation.TheVariants.{Add, And}
 use Rattle.words.specs.Words.{Word, plus}
 use Rattle.piles.specs.Piles.{HoldsMaskedSums, masked_sum}
@@ -11,11 +11,8 @@ holds-sums g a b m hm x y hx hy ha hb =
     g.met.D.Domain.of_holds And (g.D.Domain.applied Add a b) (g.D.Domain.single m) (plus x y) m (omega arith) hm
     (g.met.D.Domain.of_holds Add a b x y hx hy ha hb (λ h. h)) (g.met.D.Domain.only_holds m hm) (λ h. h)
 
-pub returns : goal.returns
-returns g c =
-    record {
-      named = c.answer.ensures;
-      sound =
-          subst (λ (r : g.row.D.Denot). HoldsMaskedSums g.D.Domain c.args.a c.args.b c.args.mask r) (sym c.answer.ensures)
-          (holds-sums g c.args.a c.args.b c.args.mask (omega arith));
-    }
+pub returns-clause-sound : goal.returns-clause-sound
+returns-clause-sound g c =
+    let named : c.of.result ≡ masked_sum g.D.Domain c.args.a c.args.b c.args.mask = search rules in
+    subst (λ (r : g.row.D.Denot). HoldsMaskedSums g.D.Domain c.args.a c.args.b c.args.mask r) (sym named)
+    (holds-sums g c.args.a c.args.b c.args.mask (omega arith))

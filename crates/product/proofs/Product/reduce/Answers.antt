@@ -1,23 +1,24 @@
--- The pair is the one that the definition names, and so it holds just the words that both parts held.
-use Rattle.std.proofs.Common.{Option, sym, subst}
-use Rattle.domain.specs.Lawful.{Lawful, lawful}
+-- Each exit answers what the definition names, and that holds just the words that both parts held.
+use Rattle.std.proofs.Common.{rules, ◌≡◌, Option, Some, sym, subst}
 use Rattle.product.specs.declared.Product.{Product}
-use Rattle.product.specs.Products.{Exactly}
+use Rattle.product.specs.Products.{Exactly, pair, reduced}
 use Rattle.product.specs.Laws.{exactly}
 use Rattle.product.proofs.Product.reduce.Given as given
 use Rattle.product.proofs.Product.reduce.Goals as goal
 
-first : (g : given.Over) → Lawful g.A.Domain
-first g = let m = g.met.A.Domain in lawful g.A.Domain m.any_holds m.only_holds m.low_holds m.has_decides m.of_holds m.join_holds m.narrow_holds m.facts_met m.absorb_holds m.absorb_within
+named : (g : given.Over) (p : Product g.row.A.Denot g.row.B.Denot) (r : Option (Product g.row.A.Denot g.row.B.Denot))
+    → r ≡ reduced g.A.Domain g.B.Domain p → Exactly g.A.Domain g.B.Domain p r
+named g p r e =
+    let a = g.met.A.Domain in
+    let b = g.met.B.Domain in
+    subst (λ (q : Option (Product g.row.A.Denot g.row.B.Denot)). Exactly g.A.Domain g.B.Domain p q) (sym e)
+    (exactly g.A.Domain g.B.Domain a.facts_met a.absorb_holds b.facts_met b.absorb_holds a.absorb_within b.absorb_within p)
 
-second : (g : given.Over) → Lawful g.B.Domain
-second g = let m = g.met.B.Domain in lawful g.B.Domain m.any_holds m.only_holds m.low_holds m.has_decides m.of_holds m.join_holds m.narrow_holds m.facts_met m.absorb_holds m.absorb_within
+pub returns-in_err-second-clause-exact : goal.returns-in_err-second-clause-exact
+returns-in_err-second-clause-exact g c = named g c.args.self c.from_residual.result (search rules)
 
-pub returns : goal.returns
-returns g c =
-    record {
-      value = c.sharpened.ensures;
-      exact =
-          subst (λ (r : Option (Product g.row.A.Denot g.row.B.Denot)). Exactly g.A.Domain g.B.Domain c.args.self r) (sym c.sharpened.ensures)
-          (exactly g.A.Domain g.B.Domain (first g) (second g) c.args.self);
-    }
+pub returns-in_err-first-clause-exact : goal.returns-in_err-first-clause-exact
+returns-in_err-first-clause-exact g c = named g c.args.self c.from_residual-in_err-first.result (search rules)
+
+pub returns-clause-exact : goal.returns-clause-exact
+returns-clause-exact g c = named g c.args.self (Some (pair c.in_ok-first.first c.in_ok-second.second)) (search rules)
