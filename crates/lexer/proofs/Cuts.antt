@@ -13,6 +13,9 @@ pieces_more t n at h = at_drop_more (pieces_from n at) t at 0 h
 pub pieces-all : (t : List ℕ) (n at : ℕ) → length t ≤ at → pieces_from n at (drop at t) ≡ []
 pieces-all t n at h = at_drop_all (pieces_from n at) t at h
 
+space-more : (t : List ℕ) (n at : ℕ) → at < length t → get_or t at 0 ≡ 32 → pieces_from n at (drop at t) ≡ pieces_from n (at + 1) (drop (at + 1) t)
+space-more t n at h b = grind (arith, nat_tests, pieces_more)
+
 goes-more : (t : List ℕ) (at : ℕ) → at < length t → goes_on (drop at t) ≡ field_byte (get_or t at 0)
 goes-more t at h = at_drop_more goes_on t at 0 h
 
@@ -49,6 +52,22 @@ piece_cut t n from to l w all stops =
     piece-run k t n from (omega arith) (λ j a b. all j a (omega arith)) (λ h. ap (λ i. field_byte (get_or t i 0)) e ∙ stops (omega arith))
     ∙ ap (λ i. piece n from (take (suc k) (drop from t)) ∷ pieces_from n i (drop i t)) e
     ∙ ap (λ m. piece n from (take m (drop from t)) ∷ pieces_from n to (drop to t)) f
+
+-- past spaces
+spaces-run : (k : ℕ) (t : List ℕ) (n from : ℕ) → from + k ≤ length t → ((j : ℕ) → from ≤ j → j < from + k → get_or t j 0 ≡ 32) → pieces_from n from (drop from t) ≡ pieces_from n (from + k) (drop (from + k) t)
+spaces-run zero t n from w all = let e : from ≡ from + 0 = omega arith in ap (λ i. pieces_from n i (drop i t)) e
+spaces-run (suc k) t n from w all =
+    let e : from + 1 + k ≡ from + suc k = omega arith in
+    let one : get_or t from 0 ≡ 32 = all from (omega arith) (omega arith) in
+    let past : pieces_from n from (drop from t) ≡ pieces_from n (from + 1) (drop (from + 1) t) = space-more t n from (omega arith) one in
+    past ∙ spaces-run k t n (from + 1) (omega arith) (λ j a b. all j (omega arith) (omega arith)) ∙ ap (λ i. pieces_from n i (drop i t)) e
+
+pub spaces_cut : (t : List ℕ) (n from to : ℕ) → from ≤ to → (from < to → to ≤ length t) → ((j : ℕ) → from ≤ j → j < to → get_or t j 0 ≡ 32) → pieces_from n from (drop from t) ≡ pieces_from n to (drop to t)
+spaces_cut t n from to l w all =
+    ⊎_elim
+    (λ h. let e : from + (to - from) ≡ to = omega arith in spaces-run (to - from) t n from (omega (arith, w h)) (λ j a b. all j a (omega arith)) ∙ ap (λ i. pieces_from n i (drop i t)) e)
+    (λ h. let e : from ≡ to = omega arith in ap (λ i. pieces_from n i (drop i t)) e)
+    (cases_lt from to)
 
 pub pieces_none : (t : List ℕ) (n at : ℕ) → (at < length t → get_or t at 0 ≡ 32 → ⊥) → (at < length t → field_byte (get_or t at 0) ≡ false) → pieces_from n at (drop at t) ≡ []
 pieces_none t n at a b = ⊎_elim (λ h. let x = a h in let y = b h in grind (arith, nat_tests, pieces_more)) (λ h. pieces-all t n at h) (cases_lt at (length t))

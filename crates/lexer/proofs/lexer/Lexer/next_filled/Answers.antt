@@ -6,7 +6,7 @@ pub returns-in-Some-next_field : goal.returns-in-Some-next_field
 returns-in-Some-next_field c =
     let line = c.in-Some.ensures in
     let first = c.in-Some-next_field.ensures in
-    let inv = c.loop-line.invariant in
+    let inv = c.loop-rest.invariant in
     let text = ap length inv.1 in
     record {
       cases = search rules;
