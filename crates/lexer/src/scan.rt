@@ -40,7 +40,8 @@ pub(crate) fn skip_spaces(text: &[u8], from: usize) -> usize
     ensures all { (k : ℕ) → from ≤ k → k < result → slice_index text.now k ≡ 32 }
     ensures stops { result < length text.now → slice_index text.now result ≢ 32 }
 {
-    from + text.iter().skip(from).take_while(|b| **b == b' ').count()
+    let spaces = text.iter().skip(from).take_while(|b| **b == b' ');
+    from + spaces.count()
 }
 
 /// The first place from the given one on that holds no byte of a field.
@@ -50,11 +51,8 @@ pub(crate) fn field_end(text: &[u8], from: usize) -> usize
     ensures all { (k : ℕ) → from ≤ k → k < result → field_byte (slice_index text.now k) ≡ true }
     ensures stops { result < length text.now → field_byte (slice_index text.now result) ≡ false }
 {
-    from + text
-        .iter()
-        .skip(from)
-        .take_while(|b| is_field_byte(**b))
-        .count()
+    let run = text.iter().skip(from).take_while(|b| is_field_byte(**b));
+    from + run.count()
 }
 
 /// The place of the first line feed from the given one on, or the text's end.
@@ -65,5 +63,6 @@ pub(crate) fn line_end(text: &[u8], from: usize) -> usize
     ensures all { (k : ℕ) → from ≤ k → k < result → slice_index text.now k ≢ 10 }
     ensures stops { result < length text.now → slice_index text.now result ≡ 10 }
 {
-    from + text.iter().skip(from).take_while(|b| **b != b'\n').count()
+    let run = text.iter().skip(from).take_while(|b| **b != b'\n');
+    from + run.count()
 }
