@@ -5,7 +5,7 @@ use lexer::Place;
 use syntax::LineFault;
 
 /// Layer 4: what the text as a whole does not allow, or the fault of a line.
-#[derive(Clone, Copy)]
+#[derive(Clone, Copy, PartialEq, Eq, Debug)]
 pub enum ProgramFault {
     Line(LineFault),
     /// The text has more than 8192 bytes.

@@ -6,7 +6,7 @@ use lexer::{FieldFault, Place};
 use syntax::LineFault;
 
 /// What a fault tells: the number of the refusal, the spot that it names, and the layer that found it.
-#[derive(Clone, Copy)]
+#[derive(Clone, Copy, PartialEq, Eq, Debug)]
 pub struct Refusal {
     pub number: u8,
     pub line: usize,

@@ -1,17 +1,20 @@
 -- A text is cut at places: what its rows and a row's pieces then are. Assumes nothing.
-use Rattle.std.proofs.Common.{◌≡◌, ℕ, zero, suc, ◌+◌, ◌-◌, ◌<◌, ◌≤◌, Bool, true, false, cond, eqb, List, [], ◌∷◌, length, get_or, take, drop, sym, ap, ◌∙◌, ⊎_elim, arith, length-drop}
-use Rattle.std.proofs.lemmas.List.{at_drop_more, at_drop_all, drop_more, length-take-le, drop-take, take-take}
-use Rattle.std.proofs.lemmas.Bool.{cases_lt, cond_both}
+use Rattle.std.proofs.Common.{◌≡◌, ℕ, zero, suc, ◌+◌, ◌-◌, ◌<◌, ◌≤◌, true, false, cond, eqb, List, [], ◌∷◌, length, get_or, take, drop, sym, ap, ◌∙◌, ⊎_elim, arith}
+use Rattle.std.proofs.lemmas.List.{at_drop_more, at_drop_all, drop_more}
+use Rattle.std.proofs.lemmas.Bool.{cases_lt}
 use Rattle.std.proofs.lemmas.Bool.Decides.{nat_tests}
 use Rattle.lexer.specs.Characters.{field_byte}
 use Rattle.std.proofs.lemmas.Slice.{between_is}
-use Rattle.lexer.specs.Lines.{Piece, row, piece, pieces_from, rows_from, longer, joined_to, goes_on}
+use Rattle.lexer.specs.Lines.{row, piece, pieces_from, rows_from, longer, joined_to, goes_on}
 
 pub pieces_more : (t : List ℕ) (n at : ℕ) → at < length t → pieces_from n at (drop at t) ≡ cond (eqb (get_or t at 0) 35) [] (cond (eqb (get_or t at 0) 32) (pieces_from n (at + 1) (drop (at + 1) t)) (joined_to n at (get_or t at 0) (goes_on (drop (at + 1) t)) (pieces_from n (at + 1) (drop (at + 1) t))))
 pieces_more t n at h = at_drop_more (pieces_from n at) t at 0 h
 
 pub pieces-all : (t : List ℕ) (n at : ℕ) → length t ≤ at → pieces_from n at (drop at t) ≡ []
 pieces-all t n at h = at_drop_all (pieces_from n at) t at h
+
+space-more : (t : List ℕ) (n at : ℕ) → at < length t → get_or t at 0 ≡ 32 → pieces_from n at (drop at t) ≡ pieces_from n (at + 1) (drop (at + 1) t)
+space-more t n at h b = grind (arith, nat_tests, pieces_more)
 
 goes-more : (t : List ℕ) (at : ℕ) → at < length t → goes_on (drop at t) ≡ field_byte (get_or t at 0)
 goes-more t at h = at_drop_more goes_on t at 0 h
@@ -49,6 +52,22 @@ piece_cut t n from to l w all stops =
     piece-run k t n from (omega arith) (λ j a b. all j a (omega arith)) (λ h. ap (λ i. field_byte (get_or t i 0)) e ∙ stops (omega arith))
     ∙ ap (λ i. piece n from (take (suc k) (drop from t)) ∷ pieces_from n i (drop i t)) e
     ∙ ap (λ m. piece n from (take m (drop from t)) ∷ pieces_from n to (drop to t)) f
+
+-- past spaces
+spaces-run : (k : ℕ) (t : List ℕ) (n from : ℕ) → from + k ≤ length t → ((j : ℕ) → from ≤ j → j < from + k → get_or t j 0 ≡ 32) → pieces_from n from (drop from t) ≡ pieces_from n (from + k) (drop (from + k) t)
+spaces-run zero t n from w all = let e : from ≡ from + 0 = omega arith in ap (λ i. pieces_from n i (drop i t)) e
+spaces-run (suc k) t n from w all =
+    let e : from + 1 + k ≡ from + suc k = omega arith in
+    let one : get_or t from 0 ≡ 32 = all from (omega arith) (omega arith) in
+    let past : pieces_from n from (drop from t) ≡ pieces_from n (from + 1) (drop (from + 1) t) = space-more t n from (omega arith) one in
+    past ∙ spaces-run k t n (from + 1) (omega arith) (λ j a b. all j (omega arith) (omega arith)) ∙ ap (λ i. pieces_from n i (drop i t)) e
+
+pub spaces_cut : (t : List ℕ) (n from to : ℕ) → from ≤ to → (from < to → to ≤ length t) → ((j : ℕ) → from ≤ j → j < to → get_or t j 0 ≡ 32) → pieces_from n from (drop from t) ≡ pieces_from n to (drop to t)
+spaces_cut t n from to l w all =
+    ⊎_elim
+    (λ h. let e : from + (to - from) ≡ to = omega arith in spaces-run (to - from) t n from (omega (arith, w h)) (λ j a b. all j a (omega arith)) ∙ ap (λ i. pieces_from n i (drop i t)) e)
+    (λ h. let e : from ≡ to = omega arith in ap (λ i. pieces_from n i (drop i t)) e)
+    (cases_lt from to)
 
 pub pieces_none : (t : List ℕ) (n at : ℕ) → (at < length t → get_or t at 0 ≡ 32 → ⊥) → (at < length t → field_byte (get_or t at 0) ≡ false) → pieces_from n at (drop at t) ≡ []
 pieces_none t n at a b = ⊎_elim (λ h. let x = a h in let y = b h in grind (arith, nat_tests, pieces_more)) (λ h. pieces-all t n at h) (cases_lt at (length t))
@@ -107,30 +126,3 @@ row_cut t n from end next some l w all stops inner last =
     ∙ ap (λ l. row n from l ∷ []) (between_is t from end)
     ∙ ap (λ r. row n from (drop from (take end t)) ∷ r) (sym (rows_all t (n + 1) next (omega (arith, last h)))))
     (cases_lt end (length t))
-
--- a row has no more pieces than bytes
-joined-few : (n at b : ℕ) (g : Bool) (ps : List Piece) → length (joined_to n at b g ps) ≤ suc (length ps)
-joined-few n at b false ps = omega arith
-joined-few n at b true [] = omega arith
-joined-few n at b true (p ∷ ps) = omega arith
-
-pub pieces-few : (bs : List ℕ) (n at : ℕ) → length (pieces_from n at bs) ≤ length bs
-pieces-few [] n at = omega arith
-pieces-few (b ∷ bs) n at =
-    let P : List Piece → Type 0 = λ l. length l ≤ suc (length bs) in
-    let rest = pieces-few bs n (at + 1) in
-    cond_both (eqb b 35) _ _ P (λ e. omega arith) (λ e. cond_both (eqb b 32) _ _ P (λ f. omega arith) (λ f. omega (arith, joined-few n at b (goes_on bs) (pieces_from n (at + 1) bs))))
-
--- a part of a text is as much of it, from its place on, as the part is long
-pub part-own : (t : List ℕ) (from to : ℕ) → to ≤ length t → take (to - from) (drop from t) ≡ take (length (take (to - from) (drop from t))) (drop from t)
-part-own t from to w = ap (λ n. take n (drop from t)) (sym (length-take-le (to - from) (drop from t) (simp length-drop (omega arith))))
-
--- a part of a text's front is a part of the text
-pub part_of_front : (u t w : List ℕ) (at : ℕ) → u ≡ take (length u) t → w ≡ take (length w) (drop at u) → at + length w ≤ length u → w ≡ take (length w) (drop at t)
-part_of_front u t w at front part l =
-    let m = length u - at in
-    let e : at + m ≡ length u = omega arith in
-    part
-    ∙ ap (λ x. take (length w) (drop at x)) (front ∙ ap (λ n. take n t) (sym e))
-    ∙ ap (take (length w)) (drop-take at m t)
-    ∙ take-take (length w) m (drop at t) (omega arith)

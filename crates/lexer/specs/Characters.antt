@@ -1,5 +1,6 @@
 -- Classes of characters, and what the characters of a text may be. A character is its code.
-use Rattle.std.specs.Prelude.{ℕ, Bool, true, cond, not, ◌&&◌, ◌||◌, List, [], ◌∷◌, length, ◌==◌, nat_le, slice_index}
+use Rattle.std.specs.Prelude.{ℕ, Bool, cond, not, ◌&&◌, ◌||◌, List, length, ◌==◌, nat_le, slice_index}
+use Rattle.std.specs.List.{list_all}
 use Rattle.lexer.specs.declared.class.Class.{Class}
 use Rattle.lexer.specs.declared.class.Class.TheVariants as class
 
@@ -27,10 +28,6 @@ name_byte c = (letter c || digit c) || c == 95
 abbrev pub field_byte : ℕ → Bool
 field_byte c = not (c == 32 || c == 35)
 
-abbrev pub all : (ℕ → Bool) → List ℕ → Bool
-all p [] = true
-all p (c ∷ cs) = p c && all p cs
-
 -- 1 to 16 lower-case letters, digits or underscores, a letter first
 abbrev pub is_name : List ℕ → Bool
-is_name t = ((nat_le 1 (length t) && nat_le (length t) 16) && letter (slice_index t 0)) && all name_byte t
+is_name t = ((nat_le 1 (length t) && nat_le (length t) 16) && letter (slice_index t 0)) && list_all name_byte t

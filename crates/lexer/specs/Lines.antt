@@ -3,6 +3,7 @@ use Rattle.std.specs.Prelude.{ℕ, ◌+◌, Bool, true, false, cond, List, [], �
 use Rattle.lexer.specs.declared.place.Place.{Place}
 use Rattle.lexer.specs.declared.field.Field.{Field}
 use Rattle.lexer.specs.declared.line.Line.{Line}
+use Rattle.lexer.specs.declared.line.Filled.{Filled}
 use Rattle.lexer.specs.declared.lexer.Lexer.{Lexer}
 use Rattle.lexer.specs.Characters.{field_byte}
 
@@ -81,6 +82,10 @@ row_of l = row l.number l.at (drop l.at l.text.now)
 
 abbrev pub pieces_of : Line → List Piece
 pieces_of l = pieces (row_of l)
+
+-- all fields of a line that has some
+abbrev pub fields_of : Filled → List Piece
+fields_of l = piece_of l.first ∷ pieces_of l.rest
 
 -- what is left of a text, as rows and as filled lines
 abbrev pub rows_of : Lexer → List Row

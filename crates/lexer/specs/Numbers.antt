@@ -1,7 +1,8 @@
 -- The number that a field writes: digits, or `-` and digits.
 use Rattle.std.specs.Prelude.{ℕ, suc, ◌+◌, ◌-◌, ◌*◌, ◌^◌, min, cond, ◌&&◌, List, [], ◌∷◌, length, drop, ℤ, pos, negsuc, neg_ℤ, Some, None, Option, ◌==◌, nat_le, nat_lt, slice_index}
+use Rattle.std.specs.List.{list_all}
 use Rattle.std.specs.Option.{option_map}
-use Rattle.lexer.specs.Characters.{digit, all}
+use Rattle.lexer.specs.Characters.{digit}
 
 -- the decimal number that the digits go on with, after what stood before them
 abbrev pub value_from : ℕ → List ℕ → ℕ
@@ -10,7 +11,7 @@ value_from n (d ∷ ds) = value_from (n * 10 + (d - 48)) ds
 
 -- one or more digits
 abbrev pub natural : List ℕ → Option ℕ
-natural t = cond (nat_le 1 (length t) && all digit t) (Some (value_from 0 t)) None
+natural t = cond (nat_le 1 (length t) && list_all digit t) (Some (value_from 0 t)) None
 
 abbrev pub number : List ℕ → Option ℤ
 number t = cond (slice_index t 0 == 45) (option_map (λ n. neg_ℤ (pos n)) (natural (drop 1 t))) (option_map pos (natural t))

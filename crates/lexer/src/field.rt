@@ -1,36 +1,27 @@
 ghost use Rattle.std.specs.Prelude.{◌≡◌};
 ghost use Rattle.std.specs.Str.{bytes_eq};
-ghost use Rattle.lexer.specs.Characters.{is_name, letter};
+ghost use Rattle.lexer.specs.Characters.{is_name};
 ghost use Rattle.lexer.specs.Fields.{or_kind, named_in, spelled_in, register_in, unmarked, ends_in_colon};
 ghost use Rattle.lexer.specs.Lines.{piece_of};
 ghost use Rattle.lexer.specs.Numbers.{constant_in, size_in};
 
-use super::class::{Class, classify, is_name_byte};
+use super::class::{is_letter, is_name_byte};
 use super::fault::FieldFault;
 use super::number::{constant_in, size_in};
 use super::place::Place;
 
 /// A field of a line: a part of the text, and where it begins.
-#[derive(Clone, Copy)]
+#[derive(Clone, Copy, PartialEq, Eq, Debug)]
 pub struct Field<'a> {
     pub place: Place,
     pub text: &'a [u8],
 }
 
 /// A name found in a text: a part of the text itself, and where it begins.
-#[derive(Clone, Copy)]
+#[derive(Clone, Copy, PartialEq, Eq, Debug)]
 pub struct Name<'a> {
     pub place: Place,
     pub text: &'a [u8],
-}
-
-fn is_letter(b: u8) -> bool
-    ensures { result ≡ letter b }
-{
-    match classify(char::from(b)) {
-        Class::Letter => true,
-        Class::Digit | Class::Space | Class::Mark | Class::Foreign => false,
-    }
 }
 
 /// 1 to 16 lower-case letters, digits or underscores, a letter first.
@@ -40,22 +31,17 @@ fn is_name(text: &[u8]) -> bool
     if text.is_empty() || text.len() > 16 || !is_letter(text[0]) {
         return false;
     }
-    for b in text {
-        if !is_name_byte(*b) {
-            return false;
-        }
-    }
-    true
-}
-
-/// Are the two texts the same?
-pub fn is_same(text: &[u8], word: &[u8]) -> bool
-    ensures { result ≡ bytes_eq text.now word.now }
-{
-    text == word
+    text.iter().all(|b| is_name_byte(*b))
 }
 
 impl<'a> Field<'a> {
+    /// Is the field just the word?
+    pub fn is(self, word: &[u8]) -> bool
+        ensures { result ≡ bytes_eq self.entry.text.now word.now }
+    {
+        self.text == word
+    }
+
     /// The field as a name.
     pub fn name(self) -> Result<Name<'a>, FieldFault>
         ensures { spelled_in result ≡ named_in (piece_of self.entry) }

@@ -12,10 +12,10 @@ mod number;
 mod place;
 mod scan;
 
-pub use class::{Class, classify};
+pub use class::Class;
 pub use fault::{CharacterFault, FieldFault};
-pub use field::{Field, Name, is_same};
+pub use field::{Field, Name};
 pub use lexer::Lexer;
-pub use line::Line;
+pub use line::{Filled, Line};
 pub use place::Place;
 pub use scan::check_text;

@@ -6,11 +6,18 @@ use super::place::Place;
 use super::scan::{field_end, skip_spaces};
 
 /// What is left of a line: its number from 1, the place to go on from, and the text as far as the line's end.
-#[derive(Clone, Copy)]
+#[derive(Clone, Copy, PartialEq, Eq, Debug)]
 pub struct Line<'a> {
     pub number: usize,
     pub at: usize,
     pub text: &'a [u8],
+}
+
+/// A line that has fields: the first, and what is left of the line.
+#[derive(Clone, Copy, PartialEq, Eq, Debug)]
+pub struct Filled<'a> {
+    pub first: Field<'a>,
+    pub rest: Line<'a>,
 }
 
 impl<'a> Line<'a> {

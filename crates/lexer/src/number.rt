@@ -27,16 +27,9 @@ fn natural_capped(digits: &[u8]) -> Option<u128>
 fn number(text: &[u8]) -> Option<i128>
     ensures { result ≡ option_map in_cap (number_in text.now) }
 {
-    if !text.is_empty() && text[0] == b'-' {
-        match natural_capped(&text[1..]) {
-            Some(n) => Some(-(n as i128)),
-            None => None,
-        }
-    } else {
-        match natural_capped(text) {
-            Some(n) => Some(n as i128),
-            None => None,
-        }
+    match text {
+        [b'-', digits @ ..] => natural_capped(digits).map(|n| -(n as i128)),
+        _ => natural_capped(text).map(|n| n as i128),
     }
 }
 
@@ -56,7 +49,7 @@ pub(crate) fn size_in(text: &[u8]) -> Option<usize>
     ensures { result ≡ size_in text.now }
 {
     match number(text) {
-        Some(n) if n >= 1 && n <= 1024 => Some(n as usize),
+        Some(n @ 1..=1024) => Some(n as usize),
         _ => None,
     }
 }

@@ -1,9 +1,8 @@
-ghost use Rattle.std.specs.Prelude.{◌≡◌, ℕ, ◌<◌, ◌≤◌, true, false, length, drop, Some, None, MatchResult, ◌≢◌, slice_index};
+ghost use Rattle.std.specs.Prelude.{◌≡◌, ℕ, ◌<◌, ◌≤◌, true, false, length, Some, None, MatchResult, ◌≢◌, slice_index};
 ghost use Rattle.lexer.specs.declared.place.Place.{Place};
 ghost use Rattle.lexer.specs.declared.fault.FieldFault.TheVariants.{Character};
 ghost use Rattle.lexer.specs.Characters.{field_byte};
 ghost use Rattle.lexer.specs.Foreign.{foreign};
-ghost use Rattle.lexer.specs.Lines.{pieces_from};
 
 use super::class::is_field_byte;
 use super::fault::{CharacterFault, FieldFault};
@@ -37,14 +36,12 @@ pub fn check_text(text: &[u8]) -> Result<(), FieldFault>
 /// The first place from the given one on that holds no space.
 pub(crate) fn skip_spaces(text: &[u8], from: usize) -> usize
     ensures forward { from ≤ result }
-    ensures same { (n : ℕ) → pieces_from n from (drop from text.now) ≡ pieces_from n result (drop result text.now) }
+    ensures within { from < result → result ≤ length text.now }
+    ensures all { (k : ℕ) → from ≤ k → k < result → slice_index text.now k ≡ 32 }
     ensures stops { result < length text.now → slice_index text.now result ≢ 32 }
 {
-    let mut at = from;
-    while at < text.len() && text[at] == b' ' {
-        at += 1;
-    }
-    at
+    let spaces = text.iter().skip(from).take_while(|b| **b == b' ');
+    from + spaces.count()
 }
 
 /// The first place from the given one on that holds no byte of a field.
@@ -54,11 +51,8 @@ pub(crate) fn field_end(text: &[u8], from: usize) -> usize
     ensures all { (k : ℕ) → from ≤ k → k < result → field_byte (slice_index text.now k) ≡ true }
     ensures stops { result < length text.now → field_byte (slice_index text.now result) ≡ false }
 {
-    let mut at = from;
-    while at < text.len() && is_field_byte(text[at]) {
-        at += 1;
-    }
-    at
+    let run = text.iter().skip(from).take_while(|b| is_field_byte(**b));
+    from + run.count()
 }
 
 /// The place of the first line feed from the given one on, or the text's end.
@@ -69,9 +63,6 @@ pub(crate) fn line_end(text: &[u8], from: usize) -> usize
     ensures all { (k : ℕ) → from ≤ k → k < result → slice_index text.now k ≢ 10 }
     ensures stops { result < length text.now → slice_index text.now result ≡ 10 }
 {
-    let mut at = from;
-    while at < text.len() && text[at] != b'\n' {
-        at += 1;
-    }
-    at
+    let run = text.iter().skip(from).take_while(|b| **b != b'\n');
+    from + run.count()
 }

@@ -1,7 +1,7 @@
 -- The names of a text, by the marks that the code keeps of them.
 use Rattle.std.specs.Prelude.{ℕ, ◌-◌, ◌<◌, ◌≤◌, List, map, length, take, drop, slice_index_or}
 use Rattle.grammar.specs.Names.{Entry}
-use Rattle.reader.specs.declared.mark.Mark.{Mark}
+use Rattle.reader.specs.declared.names.Mark.{Mark}
 
 abbrev pub entry_of : List ℕ → Mark → Entry
 entry_of text m = record { name = take (m.to - m.from) (drop m.from text); number = m.number }

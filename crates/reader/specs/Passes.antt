@@ -1,16 +1,10 @@
 -- What a pass over a text leaves to the next.
-use Rattle.std.specs.Prelude.{ℕ, ◌+◌, Bool, true, false, List, [], ◌∷◌, Some, None, Ok, Err, Option, Result}
-use Rattle.lexer.specs.declared.lexer.Lexer.{Lexer}
-use Rattle.lexer.specs.Lines.{Piece, lines_of}
+use Rattle.std.specs.Prelude.{ℕ, ◌+◌, List, [], ◌∷◌, Ok, Err, Result}
+use Rattle.lexer.specs.Lines.{Piece}
 use Rattle.syntax.specs.declared.fault.LineFault.{LineFault}
 use Rattle.syntax.specs.declared.statement.Statement.{Statement}
 use Rattle.syntax.specs.declared.statement.Statement.TheVariants.{Label, Instruction as Instructs}
 use Rattle.grammar.specs.Reading.{Fields, said}
-
--- the lines of the code, where `code` has come
-abbrev pub code_in : Bool → Lexer → Option (List Fields)
-code_in true x = Some (lines_of x)
-code_in false x = None
 
 -- how many of the lines are instructions
 abbrev pub instructing : Result (Statement Piece) LineFault → ℕ

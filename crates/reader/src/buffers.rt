@@ -1,63 +1,45 @@
-ghost use Rattle.std.specs.Prelude.{◌≡◌, ◌≤◌, min, [], length, take, drop, IfOk, Ok, Err, MatchResult};
+ghost use Rattle.std.specs.Prelude.{◌≡◌, ◌≤◌, min, [], length, take, drop, IfOk, Some, Ok, Err, MatchResult};
 ghost use Rattle.lexer.specs.Lines.{lines_of};
-ghost use Rattle.reader.specs.Marked.{entries_of, Within};
-ghost use Rattle.grammar.specs.Reading.{buffers_from};
-ghost use Rattle.reader.specs.Passes.{code_in};
+ghost use Rattle.reader.specs.Marked.{entries_of};
+ghost use Rattle.grammar.specs.Reading.{buffers_from, body_of};
 
-use super::mark::{Mark, lookup};
+use super::names::Names;
+use super::source::Source;
 use grammar::ProgramFault;
-use lexer::Lexer;
-use rule::{Item, Record};
+use rule::{Item, MOST_BUFFERS, Record};
 use syntax::{Header, parse_header};
 
-/// How many buffers a text has, and whether the line `code` came after them.
-#[derive(Clone, Copy)]
-pub(crate) struct Heads {
-    pub(crate) count: usize,
-    pub(crate) coded: bool,
-}
-
-/// Writes the buffers to the front of the table, and their names to that of the marks, as far as the line `code`.
-pub(crate) fn read_buffers(
-    text: &[u8],
-    lexer: &mut Lexer,
-    names: &mut [Mark],
+/// Writes the buffers to the front of the table as far as the line `code`, which has to come, and answers their names.
+pub(crate) fn read_buffers<'a>(
+    source: &mut Source<'a>,
     table: &mut [Record],
-) -> Result<Heads, ProgramFault>
-    requires short { length text.now ≤ 8192 }
-    requires same { lexer.old.text.now ≡ text.now }
-    requires eight { length names.old ≡ 8 }
+) -> Result<Names<'a, MOST_BUFFERS>, ProgramFault>
     ensures cases { MatchResult result
-        (λ h. buffers_from (min 8 (length table.old)) [] [] (lines_of lexer.old) ≡ Ok (record { names = entries_of text.now (take h.count names.new); records = take h.count table.new; code = code_in h.coded lexer.new }))
-        (λ f. buffers_from (min 8 (length table.old)) [] [] (lines_of lexer.old) ≡ Err f) }
-    ensures within { MatchResult result
-        (λ h. (h.count ≤ 8) × (h.count ≤ length table.old) × Within text.now (take h.count names.new))
-        (λ _. Unit {0}) }
-    ensures rest { IfOk result (λ h. drop h.count table.new ≡ drop h.count table.old) }
-    ensures text { lexer.new.text.now ≡ lexer.old.text.now }
+        (λ ns. buffers_from (min 8 (length table.old)) [] [] (lines_of source.old.lexer) ≡ Ok (record { names = entries_of ns.text.now (take ns.count ns.marks); records = take ns.count table.new; code = Some (lines_of source.new.lexer) }))
+        (λ f. body_of (length table.old) (length source.old.lexer.text.now) (lines_of source.old.lexer) ≡ Err f) }
+    ensures few { IfOk result (λ ns. ns.count ≤ length table.old) }
+    ensures rest { IfOk result (λ ns. drop ns.count table.new ≡ drop ns.count table.old) }
+    ensures text { source.new.lexer.text.now ≡ source.old.lexer.text.now }
 {
-    let mut count = 0;
-    while let Some((first, rest)) = lexer.next_filled() {
-        match parse_header(first, rest)? {
-            Header::Code => return Ok(Heads { count, coded: true }),
+    let mut names = Names::new(*source);
+    while let Some(line) = source.lexer.next_filled() {
+        match parse_header(line)? {
+            Header::Code => return Ok(names),
             Header::Buffer { name, size, mode } => {
-                if lookup(text, &names[..count], name.text).is_some() {
+                if names.get(name.text).is_some() {
                     return Err(ProgramFault::Repeated(name.place));
                 }
-                if count >= 8 || count >= table.len() {
-                    return Err(ProgramFault::Full(first.place));
+                let count = names.len();
+                if count >= MOST_BUFFERS || count >= table.len() {
+                    return Err(ProgramFault::Full(line.first.place));
                 }
-                names[count] = Mark::new(name, count);
+                names.declare(name, count);
                 table[count] = Record {
-                    line: first.place.line,
+                    line: line.first.place.line,
                     item: Item::Buffer { size, mode },
                 };
-                count += 1;
             }
         }
     }
-    Ok(Heads {
-        count,
-        coded: false,
-    })
+    Err(ProgramFault::Unclosed(source.lexer.text().len()))
 }

@@ -5,8 +5,9 @@
 mod buffers;
 mod code;
 mod link;
-mod mark;
+mod names;
 mod scope;
+mod source;
 mod survey;
 mod table;
 

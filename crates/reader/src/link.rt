@@ -2,7 +2,7 @@ ghost use Rattle.std.specs.Prelude.{◌≡◌, ◌≤◌, [], length, take, drop
 ghost use Rattle.lexer.specs.Lines.{lines_of};
 ghost use Rattle.reader.specs.Passes.{instructions_in};
 ghost use Rattle.grammar.specs.Reading.{link_from};
-ghost use Rattle.reader.specs.Scopes.{scope_in, Inside};
+ghost use Rattle.reader.specs.Scopes.{scope_in};
 
 use super::scope::Scope;
 use grammar::ProgramFault;
@@ -16,8 +16,7 @@ pub(crate) fn link_code(
     mut lexer: Lexer,
     slots: &mut [Record],
 ) -> Result<usize, ProgramFault>
-    requires inside { Inside scope }
-    requires fits { instructions_in (lines_of lexer) ≤ length slots.old }
+    requires { instructions_in (lines_of lexer) ≤ length slots.old }
     ensures cases { MatchResult result
         (λ n. link_from (scope_in scope.entry) [] (lines_of lexer.entry) ≡ Ok (take n slots.new))
         (λ f. link_from (scope_in scope.entry) [] (lines_of lexer.entry) ≡ Err f) }
@@ -26,10 +25,10 @@ pub(crate) fn link_code(
         (λ _. Unit {0}) }
 {
     let mut count = 0;
-    while let Some((first, rest)) = lexer.next_filled() {
-        if let Statement::Instruction(instruction) = parse_statement(first, rest)? {
+    while let Some(line) = lexer.next_filled() {
+        if let Statement::Instruction(instruction) = parse_statement(line)? {
             slots[count] = Record {
-                line: first.place.line,
+                line: line.first.place.line,
                 item: Item::Instruction(scope.resolve(count, instruction)?),
             };
             count += 1;

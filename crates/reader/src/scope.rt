@@ -2,41 +2,38 @@ ghost use Rattle.std.specs.Prelude.{◌≡◌};
 ghost use Rattle.lexer.specs.Fields.{spelled};
 ghost use Rattle.syntax.specs.Spelled.{instruction as spelled_instruction};
 ghost use Rattle.grammar.specs.Links.{source as source_of, sink as sink_of, target as target_of, resolved};
-ghost use Rattle.reader.specs.Scopes.{scope_in, Inside};
+ghost use Rattle.reader.specs.Scopes.{scope_in};
 
-use super::mark::{Mark, lookup};
+use super::names::Names;
+use super::survey::MOST_LABELS;
 use grammar::ProgramFault;
 use lexer::Name;
-use rule::{Instruction, Record};
+use rule::{Instruction, MOST_BUFFERS, Record};
 
 /// What the names of a text stand for: its buffers by name and as records, its labels, and how many instructions it has.
 #[derive(Clone, Copy)]
 pub(crate) struct Scope<'a, 'b> {
-    pub(crate) text: &'a [u8],
-    pub(crate) names: &'a [Mark],
-    pub(crate) heads: &'a [Record],
-    pub(crate) labels: &'b [Mark],
+    pub(crate) names: &'b Names<'a, MOST_BUFFERS>,
+    pub(crate) heads: &'b [Record],
+    pub(crate) labels: &'b Names<'a, MOST_LABELS>,
     pub(crate) count: usize,
 }
 
 impl Scope<'_, '_> {
     /// The buffer to load from.
     fn source(&self, name: Name) -> Result<usize, ProgramFault>
-        requires { Inside self.now }
         ensures { result ≡ source_of (scope_in self.now) (spelled name.entry) }
     {
-        match lookup(self.text, self.names, name.text) {
-            Some(buffer) => Ok(buffer),
-            None => Err(ProgramFault::Unknown(name.place)),
-        }
+        self.names
+            .get(name.text)
+            .ok_or(ProgramFault::Unknown(name.place))
     }
 
     /// The buffer to store into.
     fn sink(&self, name: Name) -> Result<usize, ProgramFault>
-        requires { Inside self.now }
         ensures { result ≡ sink_of (scope_in self.now) (spelled name.entry) }
     {
-        match lookup(self.text, self.names, name.text) {
+        match self.names.get(name.text) {
             Some(buffer)
                 if self
                     .heads
@@ -49,10 +46,9 @@ impl Scope<'_, '_> {
 
     /// The instruction to jump to from instruction k.
     fn target(&self, k: usize, name: Name) -> Result<usize, ProgramFault>
-        requires { Inside self.now }
         ensures { result ≡ target_of (scope_in self.now) k (spelled name.entry) }
     {
-        match lookup(self.text, self.labels, name.text) {
+        match self.labels.get(name.text) {
             Some(to) if k < to && to < self.count => Ok(to),
             Some(_) => Err(ProgramFault::Backward(name.place)),
             None => Err(ProgramFault::Unknown(name.place)),
@@ -65,7 +61,6 @@ impl Scope<'_, '_> {
         k: usize,
         instruction: Instruction<Name>,
     ) -> Result<Instruction<usize>, ProgramFault>
-        requires { Inside self.now }
         ensures { result ≡ resolved (scope_in self.now) k (spelled_instruction instruction.entry) }
     {
         match instruction {

@@ -1,53 +1,53 @@
-ghost use Rattle.std.specs.Prelude.{◌≡◌, ◌≤◌, false, [], length, take, IfOk, Ok, Err, MatchResult};
+ghost use Rattle.std.specs.Prelude.{◌≡◌, ◌≤◌, min, false, [], length, take, IfOk, Ok, Err, MatchResult};
 ghost use Rattle.lexer.specs.Lines.{lines_of};
-ghost use Rattle.reader.specs.Marked.{entries_of, Within};
+ghost use Rattle.reader.specs.Marked.{entries_of};
 ghost use Rattle.grammar.specs.Reading.{survey_from};
 
-use super::mark::{Mark, lookup};
+use super::names::Names;
 use grammar::ProgramFault;
 use lexer::Lexer;
+use rule::MOST_INSTRUCTIONS;
 use syntax::{Statement, parse_statement};
 
-/// How many labels and instructions the code of a text has, and whether its last line is `ret`.
+/// How many labels a text has at most: a label has two bytes at least, and the text 8192 at most.
+pub(crate) const MOST_LABELS: usize = 4096;
+
+/// How many instructions the code of a text has, and whether its last line is `ret`.
+/// A text that is not closed still has its names judged first, so this is no refusal here, and the count is needed.
 #[derive(Clone, Copy)]
 pub(crate) struct Survey {
-    pub(crate) labels: usize,
     pub(crate) instructions: usize,
     pub(crate) closed: bool,
 }
 
-/// Writes the labels of the lines that are left to the front of the marks, and counts the instructions.
+/// Declares the labels of the lines that are left, and counts the instructions, for which there is so much room.
 pub(crate) fn survey_code(
-    text: &[u8],
     mut lexer: Lexer,
-    labels: &mut [Mark],
+    labels: &mut Names<MOST_LABELS>,
     room: usize,
 ) -> Result<Survey, ProgramFault>
-    requires short { length text.now ≤ 8192 }
-    requires same { lexer.text.now ≡ text.now }
-    requires enough { length labels.old ≡ 4096 }
-    requires few { room ≤ 96 }
+    requires same { lexer.text.now ≡ labels.old.text.now }
+    requires none { labels.old.count ≡ 0 }
     ensures cases { MatchResult result
-        (λ s. survey_from room [] 0 false (lines_of lexer.entry) ≡ Ok (record { labels = entries_of text.now (take s.labels labels.new); count = s.instructions; closed = s.closed }))
-        (λ f. survey_from room [] 0 false (lines_of lexer.entry) ≡ Err f) }
-    ensures within { IfOk result (λ s. (s.labels ≤ 4096) × (s.instructions ≤ room) × Within text.now (take s.labels labels.new)) }
+        (λ s. survey_from (min 96 room) [] 0 false (lines_of lexer.entry) ≡ Ok (record { labels = entries_of labels.new.text.now (take labels.new.count labels.new.marks); count = s.instructions; closed = s.closed }))
+        (λ f. survey_from (min 96 room) [] 0 false (lines_of lexer.entry) ≡ Err f) }
+    ensures within { IfOk result (λ s. s.instructions ≤ room) }
 {
-    let mut count = 0;
+    let most = room.min(MOST_INSTRUCTIONS);
     let mut instructions = 0;
     let mut closed = false;
-    while let Some((first, rest)) = lexer.next_filled() {
-        match parse_statement(first, rest)? {
+    while let Some(line) = lexer.next_filled() {
+        match parse_statement(line)? {
             Statement::Label(name) => {
-                if lookup(text, &labels[..count], name.text).is_some() {
+                if labels.get(name.text).is_some() {
                     return Err(ProgramFault::Repeated(name.place));
                 }
-                labels[count] = Mark::new(name, instructions);
-                count += 1;
+                labels.declare(name, instructions);
                 closed = false;
             }
             Statement::Instruction(instruction) => {
-                if instructions >= room {
-                    return Err(ProgramFault::Full(first.place));
+                if instructions >= most {
+                    return Err(ProgramFault::Full(line.first.place));
                 }
                 instructions += 1;
                 closed = instruction.is_ret();
@@ -55,7 +55,6 @@ pub(crate) fn survey_code(
         }
     }
     Ok(Survey {
-        labels: count,
         instructions,
         closed,
     })

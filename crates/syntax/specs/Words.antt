@@ -1,5 +1,6 @@
 -- The words of the instructions.
-use Rattle.std.specs.Prelude.{ℕ, cond, List, [], ◌∷◌, Some, None, codes, Option}
+use Rattle.std.specs.Prelude.{ℕ, List, [], ◌∷◌, codes, Option}
+use Rattle.std.specs.List.{find}
 use Rattle.std.specs.Str.{bytes_eq}
 use Rattle.words.specs.declared.operation.Operation.TheVariants.{Add, Sub, Mul, Div, And, Or, Xor, Shl, Shr}
 use Rattle.words.specs.declared.width.Width.TheVariants.{W8, W16, W32, W64}
@@ -46,8 +47,7 @@ all_mnemonics =
 
 -- the first of the mnemonics whose word the text is
 abbrev pub first_with : List ℕ → List Mnemonic → Option Mnemonic
-first_with t [] = None
-first_with t (m ∷ ms) = cond (bytes_eq t (word_of m)) (Some m) (first_with t ms)
+first_with t ms = find (λ m. bytes_eq t (word_of m)) ms
 
 abbrev pub mnemonic_in : List ℕ → Option Mnemonic
 mnemonic_in t = first_with t all_mnemonics

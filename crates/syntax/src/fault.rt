@@ -4,7 +4,7 @@ ghost use Rattle.syntax.specs.declared.fault.LineFault.TheVariants.{Field as InF
 use lexer::{FieldFault, Place};
 
 /// Layer 3: a line of the wrong form, or the fault of a field.
-#[derive(Clone, Copy)]
+#[derive(Clone, Copy, PartialEq, Eq, Debug)]
 pub enum LineFault {
     Field(FieldFault),
     /// The first filled line is not `name size mode`, or there is none.

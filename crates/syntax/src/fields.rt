@@ -1,47 +1,61 @@
-ghost use Rattle.std.specs.Prelude.{◌≡◌, ◌∷◌, length, Some, None, MatchOption, ◌==◌};
+ghost use Rattle.std.specs.Prelude.{◌≡◌, length, Some, None, MatchResult, ◌==◌};
 ghost use Rattle.lexer.specs.Lines.{piece_of, pieces_of};
+ghost use Rattle.syntax.specs.declared.fault.LineFault.TheVariants.{Form};
 ghost use Rattle.syntax.specs.Statements.{one_in, two_in, three_in};
 
-use lexer::{Field, Line};
+use super::fault::LineFault;
+use lexer::{Field, Filled};
 
-/// Has the line no field left?
-pub(crate) fn is_done(mut rest: Line) -> bool
-    ensures { result ≡ (length (pieces_of rest.entry) == 0) }
+/// Has the line no field but its first?
+pub(crate) fn is_alone(line: Filled) -> bool
+    ensures { result ≡ (length (pieces_of line.entry.rest) == 0) }
 {
+    let mut rest = line.rest;
     rest.next_field().is_none()
 }
 
-/// What is left of a line, if that is just one field.
-pub(crate) fn one_field<'a>(mut rest: Line<'a>) -> Option<Field<'a>>
-    ensures { MatchOption result (one_in (pieces_of rest.entry) ≡ None) (λ a. one_in (pieces_of rest.entry) ≡ Some (piece_of a)) }
+/// The fields after the first, if they are just one.
+pub(crate) fn one_more<'a>(line: Filled<'a>) -> Result<Field<'a>, LineFault>
+    ensures { MatchResult result
+        (λ a. one_in (pieces_of line.entry.rest) ≡ Some (piece_of a))
+        (λ e. (one_in (pieces_of line.entry.rest) ≡ None) × (e ≡ Form line.entry.first.place)) }
 {
+    let mut rest = line.rest;
     match (rest.next_field(), rest.next_field()) {
-        (Some(a), None) => Some(a),
-        _ => None,
+        (Some(a), None) => Ok(a),
+        _ => Err(LineFault::Form(line.first.place)),
     }
 }
 
-/// What is left of a line, if that is just two fields.
-pub(crate) fn two_fields<'a>(mut rest: Line<'a>) -> Option<(Field<'a>, Field<'a>)>
-    ensures { MatchOption result (two_in (pieces_of rest.entry) ≡ None) (λ p. two_in (pieces_of rest.entry) ≡ Some (piece_of p.0, piece_of p.1)) }
+/// The fields after the first, if they are just two.
+pub(crate) fn two_more<'a>(line: Filled<'a>) -> Result<(Field<'a>, Field<'a>), LineFault>
+    ensures { MatchResult result
+        (λ p. two_in (pieces_of line.entry.rest) ≡ Some (piece_of p.0, piece_of p.1))
+        (λ e. (two_in (pieces_of line.entry.rest) ≡ None) × (e ≡ Form line.entry.first.place)) }
 {
+    let mut rest = line.rest;
     match (rest.next_field(), rest.next_field(), rest.next_field()) {
-        (Some(a), Some(b), None) => Some((a, b)),
-        _ => None,
+        (Some(a), Some(b), None) => Ok((a, b)),
+        _ => Err(LineFault::Form(line.first.place)),
     }
 }
 
-/// What is left of a line, if that is just three fields.
-pub(crate) fn three_fields<'a>(mut rest: Line<'a>) -> Option<(Field<'a>, Field<'a>, Field<'a>)>
-    ensures { MatchOption result (three_in (pieces_of rest.entry) ≡ None) (λ p. three_in (pieces_of rest.entry) ≡ Some (piece_of p.0, piece_of p.1, piece_of p.2)) }
+/// The fields after the first, if they are just three.
+pub(crate) fn three_more<'a>(
+    line: Filled<'a>,
+) -> Result<(Field<'a>, Field<'a>, Field<'a>), LineFault>
+    ensures { MatchResult result
+        (λ p. three_in (pieces_of line.entry.rest) ≡ Some (piece_of p.0, piece_of p.1, piece_of p.2))
+        (λ e. (three_in (pieces_of line.entry.rest) ≡ None) × (e ≡ Form line.entry.first.place)) }
 {
+    let mut rest = line.rest;
     match (
         rest.next_field(),
         rest.next_field(),
         rest.next_field(),
         rest.next_field(),
     ) {
-        (Some(a), Some(b), Some(c), None) => Some((a, b, c)),
-        _ => None,
+        (Some(a), Some(b), Some(c), None) => Ok((a, b, c)),
+        _ => Err(LineFault::Form(line.first.place)),
     }
 }

@@ -1,27 +1,27 @@
-ghost use Rattle.std.specs.Prelude.{◌≡◌, ◌∷◌};
-ghost use Rattle.lexer.specs.Lines.{piece_of, pieces_of};
+ghost use Rattle.std.specs.Prelude.{◌≡◌};
+ghost use Rattle.lexer.specs.Lines.{piece_of, fields_of};
 ghost use Rattle.syntax.specs.Spelled.{said, header as spelled_header, BufferFrom};
 ghost use Rattle.syntax.specs.Statements.{buffer_of, header_of, are_heading, is_heading};
 
 use super::fault::LineFault;
-use super::fields::{is_done, two_fields};
+use super::fields::{is_alone, two_more};
 use super::operand::mode;
 use super::statement::Header;
-use lexer::{Field, Line, Name, is_same};
+use lexer::{Field, Filled, Name};
 
 fn are_heading(first: Field, second: Field, third: Field) -> bool
     ensures { result ≡ are_heading (piece_of first.entry) (piece_of second.entry) (piece_of third.entry) }
 {
-    is_same(first.text, b"name") && is_same(second.text, b"size") && is_same(third.text, b"mode")
+    first.is(b"name") && second.is(b"size") && third.is(b"mode")
 }
 
 /// Is the line `name size mode`?
-pub fn is_heading(first: Field, rest: Line) -> bool
-    ensures { result ≡ is_heading (piece_of first.entry ∷ pieces_of rest.entry) }
+pub fn is_heading(line: Filled) -> bool
+    ensures { result ≡ is_heading (fields_of line.entry) }
 {
-    match two_fields(rest) {
-        Some((second, third)) => are_heading(first, second, third),
-        None => false,
+    match two_more(line) {
+        Ok((second, third)) => are_heading(line.first, second, third),
+        Err(_) => false,
     }
 }
 
@@ -40,16 +40,14 @@ fn buffer<'a>(
     Ok(Header::Buffer { name, size, mode })
 }
 
-/// What a line says before the line `code` and at it: its first field, and what is left of it.
-pub fn parse_header<'a>(first: Field<'a>, rest: Line<'a>) -> Result<Header<Name<'a>>, LineFault>
-    ensures value { said spelled_header result ≡ header_of first.entry.place (piece_of first.entry ∷ pieces_of rest.entry) }
-    ensures name { BufferFrom (piece_of first.entry) result }
+/// What a line says before the line `code` and at it.
+pub fn parse_header<'a>(line: Filled<'a>) -> Result<Header<Name<'a>>, LineFault>
+    ensures value { said spelled_header result ≡ header_of line.entry.first.place (fields_of line.entry) }
+    ensures name { BufferFrom (piece_of line.entry.first) result }
 {
-    if is_done(rest) && is_same(first.text, b"code") {
+    if is_alone(line) && line.first.is(b"code") {
         return Ok(Header::Code);
     }
-    let Some((second, third)) = two_fields(rest) else {
-        return Err(LineFault::Form(first.place));
-    };
-    buffer(first, second, third)
+    let (second, third) = two_more(line)?;
+    buffer(line.first, second, third)
 }

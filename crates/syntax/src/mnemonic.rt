@@ -1,12 +1,11 @@
 ghost use Rattle.std.specs.Prelude.{◌≡◌};
 ghost use Rattle.syntax.specs.Words.{word_of, first_with, mnemonic_in};
 
-use lexer::is_same;
 use rule::Condition;
 use words::{Operation, Width};
 
 /// The first word of an instruction.
-#[derive(Clone, Copy)]
+#[derive(Clone, Copy, PartialEq, Eq, Debug)]
 pub enum Mnemonic {
     Mov,
     Alu(Operation),
@@ -82,12 +81,7 @@ impl Mnemonic {
 fn first_with(text: &[u8], all: &[Mnemonic]) -> Option<Mnemonic>
     ensures { result ≡ first_with text.now all.now }
 {
-    for mnemonic in all {
-        if is_same(text, mnemonic.word()) {
-            return Some(*mnemonic);
-        }
-    }
-    None
+    all.iter().find(|mnemonic| text == mnemonic.word()).copied()
 }
 
 /// The mnemonic whose word the text is.

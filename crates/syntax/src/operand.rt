@@ -2,7 +2,7 @@ ghost use Rattle.std.specs.Prelude.{◌≡◌};
 ghost use Rattle.lexer.specs.Lines.{piece_of};
 ghost use Rattle.syntax.specs.Operands.{register_of, operand_of, mode_of};
 
-use lexer::{Field, FieldFault, is_same};
+use lexer::{Field, FieldFault};
 use rule::{Mode, Operand};
 
 pub(crate) fn register(field: Field) -> Result<u8, FieldFault>
@@ -18,18 +18,18 @@ pub(crate) fn operand(field: Field) -> Result<Operand, FieldFault>
     if let Some(number) = field.register() {
         return Ok(Operand::Register(number));
     }
-    match field.constant() {
-        Some(word) => Ok(Operand::Constant(word)),
-        None => Err(FieldFault::Kind(field.place)),
-    }
+    field
+        .constant()
+        .map(Operand::Constant)
+        .ok_or(FieldFault::Kind(field.place))
 }
 
 pub(crate) fn mode(field: Field) -> Result<Mode, FieldFault>
     ensures { result ≡ mode_of (piece_of field.entry) }
 {
-    if is_same(field.text, b"ro") {
+    if field.is(b"ro") {
         Ok(Mode::ReadOnly)
-    } else if is_same(field.text, b"rw") {
+    } else if field.is(b"rw") {
         Ok(Mode::ReadWrite)
     } else {
         Err(FieldFault::Kind(field.place))

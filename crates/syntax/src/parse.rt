@@ -6,37 +6,29 @@ ghost use Rattle.syntax.specs.Statements.{one, two, three, mov_of, alu_of, load_
 ghost use Rattle.syntax.specs.Words.{mnemonic_in};
 
 use super::fault::LineFault;
-use super::fields::{is_done, one_field, three_fields, two_fields};
+use super::fields::{is_alone, one_more, three_more, two_more};
 use super::mnemonic::{Mnemonic, mnemonic_in};
 use super::operand::{operand, register};
 use super::statement::Statement;
-use lexer::{Field, Line, Name};
+use lexer::{Filled, Name};
 use rule::{Condition, Instruction};
 use words::{Operation, Width};
 
 /// `mov a b`
-fn mov<'a>(first: Field<'a>, rest: Line<'a>) -> Result<Instruction<Name<'a>>, LineFault>
-    ensures { said spelled_instruction result ≡ two mov_of (Err (Form first.entry.place)) (pieces_of rest.entry) }
+fn mov<'a>(line: Filled<'a>) -> Result<Instruction<Name<'a>>, LineFault>
+    ensures { said spelled_instruction result ≡ two mov_of (Err (Form line.entry.first.place)) (pieces_of line.entry.rest) }
 {
-    let Some((a, b)) = two_fields(rest) else {
-        return Err(LineFault::Form(first.place));
-    };
+    let (a, b) = two_more(line)?;
     let target = register(a)?;
     let source = operand(b)?;
     Ok(Instruction::Mov { target, source })
 }
 
 /// `add a b` and its like
-fn alu<'a>(
-    operation: Operation,
-    first: Field<'a>,
-    rest: Line<'a>,
-) -> Result<Instruction<Name<'a>>, LineFault>
-    ensures { said spelled_instruction result ≡ two (alu_of operation) (Err (Form first.entry.place)) (pieces_of rest.entry) }
+fn alu<'a>(operation: Operation, line: Filled<'a>) -> Result<Instruction<Name<'a>>, LineFault>
+    ensures { said spelled_instruction result ≡ two (alu_of operation) (Err (Form line.entry.first.place)) (pieces_of line.entry.rest) }
 {
-    let Some((a, b)) = two_fields(rest) else {
-        return Err(LineFault::Form(first.place));
-    };
+    let (a, b) = two_more(line)?;
     let target = register(a)?;
     let operand = operand(b)?;
     Ok(Instruction::Alu {
@@ -47,16 +39,10 @@ fn alu<'a>(
 }
 
 /// `ld8 a buf i` and its like
-fn load<'a>(
-    width: Width,
-    first: Field<'a>,
-    rest: Line<'a>,
-) -> Result<Instruction<Name<'a>>, LineFault>
-    ensures { said spelled_instruction result ≡ three (load_of width) (Err (Form first.entry.place)) (pieces_of rest.entry) }
+fn load<'a>(width: Width, line: Filled<'a>) -> Result<Instruction<Name<'a>>, LineFault>
+    ensures { said spelled_instruction result ≡ three (load_of width) (Err (Form line.entry.first.place)) (pieces_of line.entry.rest) }
 {
-    let Some((a, buf, i)) = three_fields(rest) else {
-        return Err(LineFault::Form(first.place));
-    };
+    let (a, buf, i) = three_more(line)?;
     let target = register(a)?;
     let buffer = buf.name()?;
     let index = operand(i)?;
@@ -69,16 +55,10 @@ fn load<'a>(
 }
 
 /// `st8 buf i a` and its like
-fn store<'a>(
-    width: Width,
-    first: Field<'a>,
-    rest: Line<'a>,
-) -> Result<Instruction<Name<'a>>, LineFault>
-    ensures { said spelled_instruction result ≡ three (store_of width) (Err (Form first.entry.place)) (pieces_of rest.entry) }
+fn store<'a>(width: Width, line: Filled<'a>) -> Result<Instruction<Name<'a>>, LineFault>
+    ensures { said spelled_instruction result ≡ three (store_of width) (Err (Form line.entry.first.place)) (pieces_of line.entry.rest) }
 {
-    let Some((buf, i, a)) = three_fields(rest) else {
-        return Err(LineFault::Form(first.place));
-    };
+    let (buf, i, a) = three_more(line)?;
     let buffer = buf.name()?;
     let index = operand(i)?;
     let source = register(a)?;
@@ -91,27 +71,19 @@ fn store<'a>(
 }
 
 /// `jmp L`
-fn jump<'a>(first: Field<'a>, rest: Line<'a>) -> Result<Instruction<Name<'a>>, LineFault>
-    ensures { said spelled_instruction result ≡ one jump_of (Err (Form first.entry.place)) (pieces_of rest.entry) }
+fn jump<'a>(line: Filled<'a>) -> Result<Instruction<Name<'a>>, LineFault>
+    ensures { said spelled_instruction result ≡ one jump_of (Err (Form line.entry.first.place)) (pieces_of line.entry.rest) }
 {
-    let Some(label) = one_field(rest) else {
-        return Err(LineFault::Form(first.place));
-    };
+    let label = one_more(line)?;
     let to = label.name()?;
     Ok(Instruction::Jump { to })
 }
 
 /// `jeq a b L` and its like
-fn branch<'a>(
-    condition: Condition,
-    first: Field<'a>,
-    rest: Line<'a>,
-) -> Result<Instruction<Name<'a>>, LineFault>
-    ensures { said spelled_instruction result ≡ three (branch_of condition) (Err (Form first.entry.place)) (pieces_of rest.entry) }
+fn branch<'a>(condition: Condition, line: Filled<'a>) -> Result<Instruction<Name<'a>>, LineFault>
+    ensures { said spelled_instruction result ≡ three (branch_of condition) (Err (Form line.entry.first.place)) (pieces_of line.entry.rest) }
 {
-    let Some((a, b, label)) = three_fields(rest) else {
-        return Err(LineFault::Form(first.place));
-    };
+    let (a, b, label) = three_more(line)?;
     let left = register(a)?;
     let right = operand(b)?;
     let to = label.name()?;
@@ -123,35 +95,30 @@ fn branch<'a>(
     })
 }
 
-fn instruction<'a>(first: Field<'a>, rest: Line<'a>) -> Result<Instruction<Name<'a>>, LineFault>
-    ensures { said spelled_instruction result ≡ known_of first.entry.place (mnemonic_in first.entry.text.now) (pieces_of rest.entry) }
+fn instruction<'a>(line: Filled<'a>) -> Result<Instruction<Name<'a>>, LineFault>
+    ensures { said spelled_instruction result ≡ known_of line.entry.first.place (mnemonic_in line.entry.first.text.now) (pieces_of line.entry.rest) }
 {
-    let Some(mnemonic) = mnemonic_in(first.text) else {
-        return Err(LineFault::Form(first.place));
-    };
-    match mnemonic {
-        Mnemonic::Mov => mov(first, rest),
-        Mnemonic::Alu(operation) => alu(operation, first, rest),
-        Mnemonic::Load(width) => load(width, first, rest),
-        Mnemonic::Store(width) => store(width, first, rest),
-        Mnemonic::Jump => jump(first, rest),
-        Mnemonic::Branch(condition) => branch(condition, first, rest),
-        Mnemonic::Ret if is_done(rest) => Ok(Instruction::Ret),
-        Mnemonic::Ret => Err(LineFault::Form(first.place)),
+    let form = LineFault::Form(line.first.place);
+    match mnemonic_in(line.first.text).ok_or(form)? {
+        Mnemonic::Mov => mov(line),
+        Mnemonic::Alu(operation) => alu(operation, line),
+        Mnemonic::Load(width) => load(width, line),
+        Mnemonic::Store(width) => store(width, line),
+        Mnemonic::Jump => jump(line),
+        Mnemonic::Branch(condition) => branch(condition, line),
+        Mnemonic::Ret if is_alone(line) => Ok(Instruction::Ret),
+        Mnemonic::Ret => Err(form),
     }
 }
 
-/// What a line says after the line `code`: its first field, and what is left of it.
-pub fn parse_statement<'a>(
-    first: Field<'a>,
-    rest: Line<'a>,
-) -> Result<Statement<Name<'a>>, LineFault>
-    ensures value { said spelled_statement result ≡ statement_of (piece_of first.entry) (pieces_of rest.entry) }
-    ensures label { LabelFrom (piece_of first.entry) result }
+/// What a line says after the line `code`.
+pub fn parse_statement<'a>(line: Filled<'a>) -> Result<Statement<Name<'a>>, LineFault>
+    ensures value { said spelled_statement result ≡ statement_of (piece_of line.entry.first) (pieces_of line.entry.rest) }
+    ensures label { LabelFrom (piece_of line.entry.first) result }
 {
-    if is_done(rest) && first.ends_in_colon() {
-        let name = first.without_last().name()?;
+    if is_alone(line) && line.first.ends_in_colon() {
+        let name = line.first.without_last().name()?;
         return Ok(Statement::Label(name));
     }
-    Ok(Statement::Instruction(instruction(first, rest)?))
+    Ok(Statement::Instruction(instruction(line)?))
 }

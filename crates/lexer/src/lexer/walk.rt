@@ -1,8 +1,7 @@
 ghost use Rattle.std.specs.Prelude.{◌≡◌, ◌+◌, ◌<◌, ◌≤◌, [], ◌∷◌, length, take, drop, IfSome, MatchOption};
-ghost use Rattle.lexer.specs.Lines.{piece_of, pieces_of, row_of, rows_of, lines_of};
+ghost use Rattle.lexer.specs.Lines.{fields_of, row_of, rows_of, lines_of};
 
-use super::super::field::Field;
-use super::super::line::Line;
+use super::super::line::{Filled, Line};
 use super::super::scan::line_end;
 use super::Lexer;
 
@@ -43,15 +42,15 @@ impl<'a> Lexer<'a> {
     }
 
     /// The next line that has fields: its first field, and what is left of it.
-    pub fn next_filled(&mut self) -> Option<(Field<'a>, Line<'a>)>
-        ensures cases { MatchOption result ((lines_of self.old ≡ []) × (lines_of self.new ≡ [])) (λ l. lines_of self.old ≡ (piece_of l.0 ∷ pieces_of l.1) ∷ lines_of self.new) }
+    pub fn next_filled(&mut self) -> Option<Filled<'a>>
+        ensures cases { MatchOption result ((lines_of self.old ≡ []) × (lines_of self.new ≡ [])) (λ l. lines_of self.old ≡ fields_of l ∷ lines_of self.new) }
         ensures same { self.new.text.now ≡ self.old.text.now }
-        ensures part { IfSome result (λ l. l.0.text.now ≡ take (length l.0.text.now) (drop l.0.place.at self.old.text.now)) }
-        ensures within { IfSome result (λ l. (self.old.at ≤ l.0.place.at) × (0 < length l.0.text.now) × (l.0.place.at + length l.0.text.now ≤ self.new.at) × (self.new.at ≤ length self.old.text.now)) }
+        ensures part { IfSome result (λ l. l.first.text.now ≡ take (length l.first.text.now) (drop l.first.place.at self.old.text.now)) }
+        ensures within { IfSome result (λ l. (self.old.at ≤ l.first.place.at) × (0 < length l.first.text.now) × (l.first.place.at + length l.first.text.now ≤ self.new.at) × (self.new.at ≤ length self.old.text.now)) }
     {
-        while let Some(mut line) = self.next_line() {
-            if let Some(first) = line.next_field() {
-                return Some((first, line));
+        while let Some(mut rest) = self.next_line() {
+            if let Some(first) = rest.next_field() {
+                return Some(Filled { first, rest });
             }
         }
         None

@@ -1,13 +1,11 @@
-use Rattle.std.proofs.Common.{arith}
+use Rattle.std.proofs.Common.{arith, rules}
 use Rattle.std.proofs.lemmas.Bool.Decides.{nat_tests}
-use Rattle.lexer.proofs.Steps.{all_more, all_end}
+use Rattle.std.proofs.lemmas.Iterator.{YieldsList-from_slice}
+use Rattle.std.proofs.lemmas.Iterator.Search.{all_from_yields_List}
+use Rattle.lexer.specs.Characters.{name_byte}
 use Rattle.lexer.proofs.field.is_name.Goals as goal
 
-pub returns-then-not-is_name_byte : goal.returns-then-not-is_name_byte
-returns-then-not-is_name_byte c = grind (arith, nat_tests, all_more)
-
-pub loop-b-preserved : goal.loop-b-preserved
-loop-b-preserved c = grind (arith, nat_tests, all_more)
-
 pub returns : goal.returns
-returns c = grind (arith, nat_tests, all_end)
+returns c =
+    let each = all_from_yields_List name_byte _ _ c.all.result c.all.ensures.ran (YieldsList-from_slice c.args.text.now cc) (λ x b q k. search rules) in
+    grind (arith, nat_tests)

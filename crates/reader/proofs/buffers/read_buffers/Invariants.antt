@@ -1,17 +1,17 @@
 use Rattle.std.proofs.Common.{◌≡◌, ◌≤◌, min, [], length, take, drop}
 use Rattle.lexer.specs.Lines.{lines_of}
-use Rattle.reader.specs.Marked.{entries_of, Within}
+use Rattle.reader.specs.Marked.{entries_of}
 use Rattle.grammar.specs.Reading.{buffers_from}
 use Rattle.reader.proofs.buffers.read_buffers.Given as goal
 
-abbrev pub invariant-loop-first : goal.invariant-loop-first
-invariant-loop-first l =
-    (l.count ≤ 8)
-    × (l.count ≤ length l.table)
-    × (l.lexer.text.now ≡ l.initial.lexer.text.now)
-    × Within l.text (take l.count l.names)
-    × (buffers_from (min 8 (length l.table)) (entries_of l.text (take l.count l.names)) (take l.count l.table) (lines_of l.lexer) ≡ buffers_from (min 8 (length l.initial.table)) [] [] (lines_of l.initial.lexer))
-    × (drop l.count l.table ≡ drop l.count l.initial.table)
+abbrev pub invariant-loop-line : goal.invariant-loop-line
+invariant-loop-line l = record {
+  same : l.names.text.now ≡ l.source.lexer.text.now;
+  fits : l.names.count ≤ length l.table;
+  text : l.source.lexer.text.now ≡ l.initial.source.lexer.text.now;
+  read : buffers_from (min 8 (length l.table)) (entries_of l.names.text.now (take l.names.count l.names.marks)) (take l.names.count l.table) (lines_of l.source.lexer) ≡ buffers_from (min 8 (length l.initial.table)) [] [] (lines_of l.initial.source.lexer);
+  rest : drop l.names.count l.table ≡ drop l.names.count l.initial.table;
+}
 
-abbrev pub decreases-loop-first : goal.decreases-loop-first
-decreases-loop-first l = length (lines_of l.lexer)
+abbrev pub decreases-loop-line : goal.decreases-loop-line
+decreases-loop-line l = length (lines_of l.source.lexer)

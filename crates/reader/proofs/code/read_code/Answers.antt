@@ -7,5 +7,5 @@ use Rattle.reader.proofs.code.read_code.Goals as goal
 pub link_code-requires : goal.link_code-requires
 link_code-requires c =
     let survey = c.in_ok-survey.ensures in
-    let count : c.in_ok-survey.survey.instructions ≡ instructions_in (lines_of c.args.lexer) = survey_counts (lines_of c.args.lexer) c.min.result _ survey.cases in
-    record { inside = (c.requires.within, survey.within.2); fits = omega (arith, survey.within.1, c.min.ensures) }
+    let count : c.in_ok-survey.survey.instructions ≡ instructions_in (lines_of c.args.source.lexer) = survey_counts (lines_of c.args.source.lexer) _ _ survey.cases in
+    omega (arith, survey.within)

@@ -1,13 +1,11 @@
-use Rattle.std.proofs.Common.{arith, rules}
-use Rattle.std.proofs.lemmas.Bool.Decides.{nat_tests}
-use Rattle.syntax.proofs.Steps.{first_more, first-all}
+use Rattle.std.proofs.Common.{rules}
+use Rattle.std.proofs.lemmas.Iterator.{YieldsList-from_slice}
+use Rattle.std.proofs.lemmas.Iterator.Search.{find_from_yields_List}
+use Rattle.std.specs.Str.{bytes_eq}
+use Rattle.syntax.specs.Words.{word_of}
 use Rattle.syntax.proofs.mnemonic.first_with.Goals as goal
 
-pub returns-then-is_same : goal.returns-then-is_same
-returns-then-is_same c = grind (arith, nat_tests, first_more)
-
-pub loop-mnemonic-preserved : goal.loop-mnemonic-preserved
-loop-mnemonic-preserved c = grind (arith, nat_tests, first_more)
-
 pub returns : goal.returns
-returns c = search (rules, first-all)
+returns c =
+    let found = find_from_yields_List (λ m. bytes_eq c.args.text.now (word_of m)) _ _ c.find.result c.find.ensures.ran (YieldsList-from_slice c.args.all.now cc) (λ x b q k. search rules) in
+    search (rules, found)

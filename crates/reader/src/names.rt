@@ -1,0 +1,92 @@
+ghost use Rattle.std.specs.Prelude.{◌≡◌, ◌+◌, ◌<◌, ◌≤◌, [], ◌∷◌, ◌++◌, length, take, drop};
+ghost use Rattle.lexer.specs.Fields.{spelled};
+ghost use Rattle.grammar.specs.Names.{number_of};
+ghost use Rattle.grammar.specs.Reading.{entry};
+ghost use Rattle.reader.specs.Marked.{entries_of, Within};
+
+use super::source::Source;
+use lexer::Name;
+
+/// A name that a text declares: where it stands in the text, and the number of what it names.
+/// A text has at most 8192 bytes, so small numbers do.
+#[derive(Clone, Copy)]
+struct Mark {
+    from: u16,
+    to: u16,
+    number: u16,
+}
+
+impl Mark {
+    const NONE: Mark = Mark {
+        from: 0,
+        to: 0,
+        number: 0,
+    };
+}
+
+/// The names that a text declares, at most so many, and the number of what each names.
+/// They lie in a fixed array, as marks in the text and not as its parts, since there is no heap: 6 bytes for each.
+#[derive(Drop)]
+pub(crate) struct Names<'a, const N: usize> {
+    text: &'a [u8],
+    marks: [Mark; N],
+    count: usize,
+    ghost short: { length text.now ≤ 8192 },
+    ghost counted: { count ≤ N },
+    ghost within: { Within text.now (take count marks) },
+}
+
+impl<'a, const N: usize> Names<'a, N> {
+    /// No names, of the text that is read.
+    pub(crate) fn new(source: Source<'a>) -> Names<'a, N>
+        ensures text { result.text.now ≡ source.entry.lexer.text.now }
+        ensures none { result.count ≡ 0 }
+    {
+        Names {
+            text: source.lexer.text(),
+            marks: [Mark::NONE; N],
+            count: 0,
+        }
+    }
+
+    pub(crate) fn len(&self) -> usize
+        ensures value { result ≡ self.now.count }
+        ensures fits { result ≤ N }
+    {
+        self.count
+    }
+
+    /// The number of what the name stands for, if it is declared.
+    pub(crate) fn get(&self, name: &[u8]) -> Option<usize>
+        ensures { result ≡ number_of (entries_of self.now.text.now (take self.now.count self.now.marks)) name.now }
+    {
+        let text = self.text;
+        let marks = &self.marks[..self.count];
+        for mark in marks {
+            if &text[usize::from(mark.from)..usize::from(mark.to)] == name {
+                return Some(usize::from(mark.number));
+            }
+        }
+        None
+    }
+
+    /// One name more, which lies in the text.
+    pub(crate) fn declare(&mut self, name: Name, number: usize)
+        requires room { self.old.count < N }
+        requires small { number ≤ 96 }
+        requires inside { name.place.at + length name.text.now ≤ length self.old.text.now }
+        requires part { name.text.now ≡ take (length name.text.now) (drop name.place.at self.old.text.now) }
+        ensures text { self.new.text.now ≡ self.old.text.now }
+        ensures count { self.new.count ≡ self.old.count + 1 }
+        ensures entries { entries_of self.new.text.now (take self.new.count self.new.marks) ≡ entries_of self.old.text.now (take self.old.count self.old.marks) ++ entry (spelled name.entry) number ∷ [] }
+    {
+        let from = name.place.at;
+        let to = from + name.text.len();
+        self.marks[self.count] = Mark {
+            from: from as u16,
+            to: to as u16,
+            number: number as u16,
+        };
+        self.count += 1;
+    }
+}
