@@ -71,11 +71,6 @@ load_of p r m w b s = and_then (fetched r s) (λ i. and_then (place_in p b w i) 
 abbrev pub store_of : List Record → RegisterList → List ℕ → Width → ℕ → Operand → ℕ → Option (List ℕ)
 store_of p r m w b s t = and_then (fetched r s) (λ i. and_then (register_of r t) (λ x. and_then (place_in p b w i) (λ a. Some (written m a (bytes_in (bytes_of w) x)))))
 
--- what is answered and left by a store, as the memory after it
-abbrev pub stored_to : Option Unit → List ℕ → Option (List ℕ)
-stored_to None m = None
-stored_to (Some u) m = Some m
-
 -- where a branch at k leads
 abbrev pub branch_of : RegisterList → ℕ → Condition → ℕ → Operand → ℕ → Option ℕ
 branch_of r k c l s to = and_then (register_of r l) (λ x. and_then (fetched r s) (λ y. Some (cond (is_related c x y) to (k + 1))))
@@ -101,6 +96,10 @@ goes k r m = Some (step (Go k) r m)
 abbrev pub puts : ℕ → ℕ → RegisterList → List ℕ → Option ℕ → Option Step
 puts k t r m v = and_then v (λ x. goes (k + 1) (slice_set r t (Some x)) m)
 
+-- a store at k
+abbrev pub stores : List Record → ℕ → Width → ℕ → Operand → ℕ → RegisterList → List ℕ → Option Step
+stores p k w b s t r m = and_then (store_of p r m w b s t) (λ n. goes (k + 1) r n)
+
 -- a branch at k
 abbrev pub branches : ℕ → Condition → ℕ → Operand → ℕ → RegisterList → List ℕ → Option Step
 branches k c l s to r m = and_then (branch_of r k c l s to) (λ j. goes j r m)
@@ -110,7 +109,7 @@ abbrev pub step_of : List Record → ℕ → Item → RegisterList → List ℕ 
 step_of p k (Instruction (Mov t s)) r m = puts k t r m (fetched r s)
 step_of p k (Instruction (Alu op t s)) r m = puts k t r m (alu_of r op t s)
 step_of p k (Instruction (Load w t b s)) r m = puts k t r m (load_of p r m w b s)
-step_of p k (Instruction (Store w b s t)) r m = and_then (store_of p r m w b s t) (λ n. goes (k + 1) r n)
+step_of p k (Instruction (Store w b s t)) r m = stores p k w b s t r m
 step_of p k (Instruction (Jump to)) r m = goes to r m
 step_of p k (Instruction (Branch c l s to)) r m = branches k c l s to r m
 step_of p k (Instruction Ret) r m = and_then (register_of r 0) (λ x. Some (step (Return x) r m))

@@ -2,9 +2,9 @@ ghost use Rattle.std.specs.Prelude.{◌≡◌, ℕ, ◌+◌, ◌≤◌, List, le
 ghost use Rattle.words.specs.Widths.{bytes_of};
 ghost use Rattle.rule.specs.declared.record.Item.TheVariants.{Instruction as Instructs};
 ghost use Rattle.machine.specs.Memory.{total_size};
-ghost use Rattle.engine.specs.Steps.{result_in, is_related, alu_of, place_in, load_of, stored_to, store_of, branches, stepped, puts, step_of};
+ghost use Rattle.engine.specs.Steps.{result_in, is_related, fetched, alu_of, place_in, load_of, stores, branches, stepped, puts, step_of};
 
-use super::bytes::{load, store};
+use super::bytes;
 use super::next::Next;
 use super::place::place;
 use super::registers::Registers;
@@ -41,19 +41,6 @@ fn holds(condition: Condition, x: u64, y: u64) -> bool
     }
 }
 
-fn alu(
-    registers: &Registers,
-    operation: Operation,
-    target: u8,
-    operand: Operand,
-) -> Option<u64>
-    ensures { result ≡ alu_of registers.now.words operation target operand }
-{
-    let x = registers.get(target)?;
-    let y = registers.value(operand)?;
-    compute(operation, x, y)
-}
-
 /// The place in the memory of the bytes at an index of a buffer, where they lie in it and the index is a multiple of
 /// their number.
 fn aligned(rule: Rule<'_>, buffer: usize, width: Width, index: u64) -> Option<usize>
@@ -69,24 +56,49 @@ fn aligned(rule: Rule<'_>, buffer: usize, width: Width, index: u64) -> Option<us
     }
 }
 
-fn load_at(
+fn mov(registers: &mut Registers, target: u8, source: Operand) -> Option<Next>
+    ensures { (k : ℕ) (m : List ℕ) → stepped k result registers.new.words m ≡ puts k target registers.old.words m (fetched registers.old.words source) }
+{
+    let word = registers.value(source)?;
+    registers.set(target, word);
+    Some(Next::Onward)
+}
+
+fn alu(
+    registers: &mut Registers,
+    operation: Operation,
+    target: u8,
+    operand: Operand,
+) -> Option<Next>
+    ensures { (k : ℕ) (m : List ℕ) → stepped k result registers.new.words m ≡ puts k target registers.old.words m (alu_of registers.old.words operation target operand) }
+{
+    let x = registers.get(target)?;
+    let y = registers.value(operand)?;
+    let word = compute(operation, x, y)?;
+    registers.set(target, word);
+    Some(Next::Onward)
+}
+
+fn load(
     rule: Rule<'_>,
-    registers: &Registers,
+    registers: &mut Registers,
     memory: &[u8],
     width: Width,
+    target: u8,
     buffer: usize,
     index: Operand,
-) -> Option<u64>
+) -> Option<Next>
     requires { length memory.now ≡ total_size rule.table.now }
-    ensures { result ≡ load_of rule.entry.table.now registers.now.words memory.now width buffer index }
+    ensures { (k : ℕ) → stepped k result registers.new.words memory.now ≡ puts k target registers.old.words memory.now (load_of rule.entry.table.now registers.old.words memory.now width buffer index) }
 {
     let index = registers.value(index)?;
     let at = aligned(rule, buffer, width, index)?;
-    Some(load(memory, at, width))
+    registers.set(target, bytes::load(memory, at, width));
+    Some(Next::Onward)
 }
 
 /// Stores the low bytes of a register. Nothing is written where there is no place for them.
-fn store_at(
+fn store(
     rule: Rule<'_>,
     registers: &Registers,
     memory: &mut [u8],
@@ -94,15 +106,15 @@ fn store_at(
     buffer: usize,
     index: Operand,
     source: u8,
-) -> Option<()>
+) -> Option<Next>
     requires { length memory.old ≡ total_size rule.table.now }
-    ensures { stored_to result memory.new ≡ store_of rule.entry.table.now registers.now.words memory.old width buffer index source }
+    ensures { (k : ℕ) → stepped k result registers.now.words memory.new ≡ stores rule.entry.table.now k width buffer index source registers.now.words memory.old }
 {
     let index = registers.value(index)?;
     let word = registers.get(source)?;
     let at = aligned(rule, buffer, width, index)?;
-    store(memory, at, width, word);
-    Some(())
+    bytes::store(memory, at, width, word);
+    Some(Next::Onward)
 }
 
 fn branch(
@@ -123,14 +135,6 @@ fn branch(
     }
 }
 
-/// A word for a register, if there is one, and on to the next instruction.
-fn put(registers: &mut Registers, target: u8, word: Option<u64>) -> Option<Next>
-    ensures { (k : ℕ) (m : List ℕ) → stepped k result registers.new.words m ≡ puts k target registers.old.words m word }
-{
-    registers.set(target, word?);
-    Some(Next::Onward)
-}
-
 /// Carries out one instruction, wherever it stands; nothing comes of one that is stuck.
 pub(crate) fn carry_out(
     rule: Rule<'_>,
@@ -142,36 +146,24 @@ pub(crate) fn carry_out(
     ensures { (k : ℕ) → stepped k result registers.new.words memory.new ≡ step_of rule.entry.table.now k (Instructs instruction) registers.old.words memory.old }
 {
     match instruction {
-        Instruction::Mov { target, source } => {
-            let word = registers.value(source);
-            put(registers, target, word)
-        }
+        Instruction::Mov { target, source } => mov(registers, target, source),
         Instruction::Alu {
             operation,
             target,
             operand,
-        } => {
-            let word = alu(registers, operation, target, operand);
-            put(registers, target, word)
-        }
+        } => alu(registers, operation, target, operand),
         Instruction::Load {
             width,
             target,
             buffer,
             index,
-        } => {
-            let word = load_at(rule, registers, memory, width, buffer, index);
-            put(registers, target, word)
-        }
+        } => load(rule, registers, memory, width, target, buffer, index),
         Instruction::Store {
             width,
             buffer,
             index,
             source,
-        } => {
-            store_at(rule, registers, memory, width, buffer, index, source)?;
-            Some(Next::Onward)
-        }
+        } => store(rule, registers, memory, width, buffer, index, source),
         Instruction::Jump { to } => Some(Next::Jump(to)),
         Instruction::Branch {
             condition,

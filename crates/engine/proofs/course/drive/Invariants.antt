@@ -10,5 +10,5 @@ invariant-loop-steps l = record {
   whole : run_from l.rule.table.now (code_length l.rule.table.now - l.steps) l.steps l.at l.registers.words l.memory
       ≡ run_from l.rule.table.now (code_length l.rule.table.now) 0 0 l.fn.registers.words l.initial.memory;
   inside : l.at < code_length l.rule.table.now;
-  eight : length l.registers.words ≡ 8
+  eight : length l.registers.words ≡ 8;
 }
