@@ -14,7 +14,7 @@ use Rattle.engine.specs.declared.next.Next.{Next}
 use Rattle.engine.specs.declared.next.Next.TheVariants as next
 use Rattle.engine.specs.Steps.{and_then, RegisterList, register_of, Step, step, step_of, led, stepped, End, onward, run_from}
 use Rattle.engine.specs.Steps.Leads.{Go}
-use Rattle.engine.proofs.Moves.{step_does, step-long}
+use Rattle.engine.proofs.Moves.{step_does}
 
 -- the instructions alone
 abbrev pub code_of : List Record → List Record
@@ -63,7 +63,6 @@ module _ (p cs : List Record) (code : cs ≡ code_of p) (n k : ℕ) (r : Registe
     pub record On (j : ℕ) : Type 0 where
       pub rest : run_from p (code_length p - n) n k r m ≡ run_from p (code_length p - (n + 1)) (n + 1) j r' m'
       pub within : j < code_length p
-      pub eight : length r' ≡ 8
 
     pub goes_on : (x : Next) (j : ℕ) → Valid p → length r ≡ 8 → o ≡ Some x → led k x ≡ Go j → On j
     goes_on x j valid eight e to =
@@ -72,5 +71,4 @@ module _ (p cs : List Record) (code : cs ≡ code_of p) (n k : ℕ) (r : Registe
         record {
           rest = run-next p (code_length p) n k r m (Some (step (Go j) r' m')) left went;
           within = (forward p k (register_of r) j (register_of r') valid inside d.0).1;
-          eight = step-long p k r m eight (item_at p k) (step (Go j) r' m') went;
         }

@@ -13,8 +13,7 @@ use rule::Item;
 
 /// Goes on from the first instruction until the rule returns. Nothing comes of a rule that gets stuck.
 fn drive(rule: Rule<'_>, mut registers: Registers, memory: &mut [u8]) -> Option<Ran>
-    requires registers { length registers.words ≡ 8 }
-    requires memory { length memory.old ≡ total_size rule.table.now }
+    requires { length memory.old ≡ total_size rule.table.now }
     ensures { ended result memory.new ≡ run_from rule.entry.table.now (code_length rule.entry.table.now) 0 0 registers.words memory.old }
 {
     let code = rule.code();

@@ -1,4 +1,4 @@
-ghost use Rattle.std.specs.Prelude.{◌≡◌, Some, slice_set};
+ghost use Rattle.std.specs.Prelude.{◌≡◌, Some, length, slice_set};
 ghost use Rattle.engine.specs.Steps.{register_of, fetched, first_registers, FourWords};
 
 use rule::Operand;
@@ -7,6 +7,7 @@ use rule::Operand;
 #[derive(Clone, Copy)]
 pub(crate) struct Registers {
     words: [Option<u64>; 8],
+    ghost eight: { length words ≡ 8 },
 }
 
 impl Registers {

@@ -35,8 +35,8 @@ loop-steps-preserved c =
       | in-Onward w ↦ ap (led s.at) w.in-Onward.is ∙ ap Go (sym w.at-is)
       | in-Jump w ↦ ap (led s.at) w.in-Jump.is ∙ ap Go (sym w.at-is)
     ] in
-    let on = goes_on p c.code-code.result.now c.code-code.ensures s.steps s.at s.registers.words s.memory c.loop-steps-test.true s.invariant.inside c.in-Instruction.instruction c.in-Instruction.is c.carry_out.result c.carry_out.new.registers.words c.carry_out.new.memory (c.carry_out.ensures s.at) c.in_ok-carry_out.field-0 j (valid-from p c.args.rule.valid) s.invariant.eight c.in_ok-carry_out.was to in
-    record { whole = sym on.rest ∙ s.invariant.whole; inside = on.within; eight = on.eight }
+    let on = goes_on p c.code-code.result.now c.code-code.ensures s.steps s.at s.registers.words s.memory c.loop-steps-test.true s.invariant.inside c.in-Instruction.instruction c.in-Instruction.is c.carry_out.result c.carry_out.new.registers.words c.carry_out.new.memory (c.carry_out.ensures s.at) c.in_ok-carry_out.field-0 j (valid-from p c.args.rule.valid) s.registers.eight c.in_ok-carry_out.was to in
+    record { whole = sym on.rest ∙ s.invariant.whole; inside = on.within }
 
 pub returns : goal.returns
 unfolding run_from
