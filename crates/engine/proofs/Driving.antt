@@ -12,7 +12,7 @@ use Rattle.machine.specs.Valid.{Valid}
 use Rattle.machine.proofs.Moving.{forward}
 use Rattle.engine.specs.declared.next.Next.{Next}
 use Rattle.engine.specs.declared.next.Next.TheVariants as next
-use Rattle.engine.specs.Steps.{and_then, RegisterList, register_of, Step, step, step_of, led, stepped, End, onward, run_from}
+use Rattle.engine.specs.Steps.{and_then, RegisterList, register_of, Step, step, step_of, led, stepped, onward, run_from}
 use Rattle.engine.specs.Steps.Leads.{Go}
 use Rattle.engine.proofs.Moves.{step_does}
 

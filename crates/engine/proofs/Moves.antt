@@ -2,6 +2,7 @@
 use Rattle.std.proofs.Common.{◌≡◌, ℕ, zero, suc, ◌+◌, ◌%◌, ◌^◌, ◌<◌, true, false, cond, ◌&&◌, eqb, leb, List, length, get_or, set, Some, None, Option, sym, refl, ap, ◌∙◌, subst, ⊎_elim, arith}
 use Rattle.std.proofs.lemmas.List.{get_or-set_same, get_or-set_other, length-set}
 use Rattle.std.proofs.lemmas.Bool.{cases_Bool, cases_eq, cond-true, cond-false, and_parts, and_from, both_ways, eqb-true, eqb-false, eq-eqb, ne_eqb, ltb-true, ltb-false, leb-true, leb-false, le-leb, not-true, not-false}
+use Rattle.std.proofs.lemmas.Option.{none-some, same_Some, cond_some}
 use Rattle.words.specs.Widths.{bits_of, bytes_of}
 use Rattle.words.specs.Words.{Sticks, Related, result_of}
 use Rattle.words.specs.declared.operation.Operation.{Operation}
@@ -29,9 +30,6 @@ use Rattle.engine.specs.Steps.{Leads, and_then, RegisterList, register_of, fetch
 
 -- ── options ──
 
-none-some : {X : Type 0} (x : X) → ◌≡◌ {A = Option X} None (Some x) → ⊥
-none-some x e = let z : ◌≡◌ {A = ℕ} 0 1 = cc in omega arith
-
 -- what came of two questions in a row
 pub and_then_parts : {X Y : Type 0} (o : Option X) (f : X → Option Y) (y : Y) → and_then o f ≡ Some y → (x : X) × (o ≡ Some x) × (f x ≡ Some y)
 and_then_parts None f y e = absurd (none-some y e)
@@ -41,12 +39,9 @@ and_then_parts (Some x) f y e = (x, refl, e)
 then_some : {X Y : Type 0} (o : Option X) (f : X → Option Y) (x : X) (y : Y) → o ≡ Some x → f x ≡ Some y → and_then o f ≡ Some y
 then_some {X} {Y} o f x y e h = ap (λ (z : Option X). and_then z f) e ∙ h
 
-pub some_is : {X : Type 0} (x y : X) → ◌≡◌ {A = Option X} (Some x) (Some y) → x ≡ y
-some_is x y e = cc
-
 same_step : (n n' : Leads) (r r' : RegisterList) (m m' : List ℕ) → Some (step n r m) ≡ Some (step n' r' m') → (n ≡ n') × (r ≡ r') × (m ≡ m')
 same_step n n' r r' m m' e =
-    let is = some_is (step n r m) (step n' r' m') e in
+    let is = same_Some (step n r m) (step n' r' m') e in
     (ap (λ (s : Step). s.next) is, ap (λ (s : Step). s.registers) is, ap (λ (s : Step). s.memory) is)
 
 go-is : (k j : ℕ) → Go k ≡ Go j → k ≡ j
@@ -100,7 +95,7 @@ result_from : (op : Operation) (x y z : ℕ) → result_in op x y ≡ Some z →
 result_from op x y z e =
     ⊎_elim
     (λ t. absurd (none-some z (sym (cond-true (sticks op y) _ _ t) ∙ e)))
-    (λ f. (free-from op y f, some_is z (result_of op x y) (sym e ∙ cond-false (sticks op y) _ _ f)))
+    (λ f. (free-from op y f, same_Some z (result_of op x y) (sym e ∙ cond-false (sticks op y) _ _ f)))
     (cases_Bool (sticks op y))
 
 result_is : (op : Operation) (x y : ℕ) → (Sticks op y → ⊥) → result_in op x y ≡ Some (result_of op x y)
@@ -110,12 +105,9 @@ place-from : (p : List Record) (b : ℕ) (w : Width) (i a : ℕ) → place_in p 
 place-from p b w i a e =
     let within = leb (i + bytes_of w) (size_at p b) in
     let even = eqb (i % bytes_of w) 0 in
-    ⊎_elim
-    (λ t.
-    let h = and_parts within even t in
-    (record { inside = leb-true _ _ h.0; even = eqb-true _ _ h.1 }, some_is a (start_of p b + i) (sym e ∙ cond-true (within && even) _ _ t)))
-    (λ f. absurd (none-some a (sym (cond-false (within && even) _ _ f) ∙ e)))
-    (cases_Bool (within && even))
+    let is = cond_some (within && even) (start_of p b + i) a e in
+    let h = and_parts within even is.0 in
+    (record { inside = leb-true _ _ h.0; even = eqb-true _ _ h.1 }, sym is.1)
 
 place_is : (p : List Record) (b : ℕ) (w : Width) (i : ℕ) → Reaches p b w i → place_in p b w i ≡ Some (start_of p b + i)
 place_is p b w i h = cond-true _ _ _ (and_from (leb (i + bytes_of w) (size_at p b)) (eqb (i % bytes_of w) 0) (le-leb _ _ h.inside) (eq-eqb _ _ h.even))
@@ -160,7 +152,7 @@ module _ (p : List Record) (k : ℕ) (r : RegisterList) (m : List ℕ) (eight : 
       let c = and_then_parts (fetched r s) _ a.0 a.1 in
       let f = and_then_parts (place_in p b w c.0) _ a.0 c.2 in
       let at = place-from p b w c.0 f.0 f.1 in
-      let read : word_of (part m (start_of p b + c.0) (bytes_of w)) ≡ a.0 = ap (λ i. word_of (part m i (bytes_of w))) (sym at.1) ∙ some_is _ _ f.2 in
+      let read : word_of (part m (start_of p b + c.0) (bytes_of w)) ≡ a.0 = ap (λ i. word_of (part m i (bytes_of w))) (sym at.1) ∙ same_Some _ _ f.2 in
       let index = sym (fetched-value r s) ∙ c.1 in (
         load c.0 a.0 index at.0 (subst (λ x. x < 2 ^ bits_of w) read (width_below w m (start_of p b + c.0))) a.2 a.3,
         (
@@ -177,7 +169,7 @@ module _ (p : List Record) (k : ℕ) (r : RegisterList) (m : List ℕ) (eight : 
       let f = and_then_parts (place_in p b w c.0) _ a.0 x.2 in
       let at = place-from p b w c.0 f.0 f.1 in
       let index = sym (fetched-value r s) ∙ c.1 in
-      let after : m' ≡ written m (start_of p b + c.0) (bytes_in (bytes_of w) x.0) = sym g.2 ∙ sym (some_is _ _ f.2) ∙ ap (λ i. written m i (bytes_in (bytes_of w) x.0)) at.1 in (
+      let after : m' ≡ written m (start_of p b + c.0) (bytes_in (bytes_of w) x.0) = sym g.2 ∙ sym (same_Some _ _ f.2) ∙ ap (λ i. written m i (bytes_in (bytes_of w) x.0)) at.1 in (
         store c.0 x.0 index x.1 at.0 (sym (go-is (k + 1) j g.0)) (ap register_of (sym g.1)),
         λ i y ei ey.
             let same-i = some_same (value (register_of r) s) c.0 i index ei in
@@ -192,7 +184,7 @@ module _ (p : List Record) (k : ℕ) (r : RegisterList) (m : List ℕ) (eight : 
       let g = same_step (Go a.0) (Go j) r r' m m' a.2 in
       let x = and_then_parts (register_of r l) _ a.0 a.1 in
       let y = and_then_parts (fetched r s) _ a.0 x.2 in
-      let leads = sym (go-is a.0 j g.0) ∙ sym (some_is _ _ y.2) in
+      let leads = sym (go-is a.0 j g.0) ∙ sym (same_Some _ _ y.2) in
       let right = sym (fetched-value r s) ∙ y.1 in
       let same = ap register_of (sym g.1) in (
         ⊎_elim
@@ -237,10 +229,10 @@ module _ (p : List Record) (k : ℕ) (r : RegisterList) (m : List ℕ) (eight : 
   put-long : (t : ℕ) (v : Option ℕ) (s : Step) → puts k t r m v ≡ Some s → length s.registers ≡ 8
   put-long t v s e =
       let a = and_then_parts v (λ x. goes (k + 1) (set r t (Some x)) m) s e in
-      ap (λ (s : Step). length s.registers) (sym (some_is _ s a.2)) ∙ length-set r t (Some a.0) ∙ eight
+      ap (λ (s : Step). length s.registers) (sym (same_Some _ s a.2)) ∙ length-set r t (Some a.0) ∙ eight
 
   same-long : (n : Leads) (m' : List ℕ) (s : Step) → Some (step n r m') ≡ Some s → length s.registers ≡ 8
-  same-long n m' s e = ap (λ (s : Step). length s.registers) (sym (some_is (step n r m') s e)) ∙ eight
+  same-long n m' s e = ap (λ (s : Step). length s.registers) (sym (same_Some (step n r m') s e)) ∙ eight
 
   pub step-long : (i : Item) (s : Step) → step_of p k i r m ≡ Some s → length s.registers ≡ 8
   step-long (Instruction (Mov t s)) z e = put-long t (fetched r s) z e

@@ -1,5 +1,4 @@
 -- Bytes that are filled into a buffer.
-use Prim.{Unit}
 use Rattle.std.specs.Prelude.{ℕ, ◌+◌, Bool, cond, ◌&&◌, List, length, Some, None, Option, nat_le, nat_lt}
 use Rattle.rule.specs.declared.record.Record.{Record}
 use Rattle.machine.specs.Memory.{start_of, written}
@@ -12,10 +11,6 @@ is_within p b offset n = nat_lt b (buffer_count p) && nat_le (offset + n) (size_
 -- where in the memory they lie then
 abbrev pub placed : List Record → ℕ → ℕ → ℕ → Option ℕ
 placed p b offset n = cond (is_within p b offset n) (Some (start_of p b + offset)) None
-
--- what a fill with so many bytes answers
-abbrev pub fill_answer : List Record → ℕ → ℕ → ℕ → Option Unit
-fill_answer p b offset n = cond (is_within p b offset n) (Some tt) None
 
 -- where they lie in a buffer, they are written there
 abbrev pub filled_in : List Record → List ℕ → ℕ → ℕ → List ℕ → List ℕ

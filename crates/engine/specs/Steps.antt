@@ -1,5 +1,4 @@
 -- One instruction and whole runs, by their values. Nothing comes of a machine that is stuck.
-use Prim.{Unit}
 use Rattle.std.specs.Prelude.{◌≡◌, ℕ, zero, suc, ◌+◌, ◌%◌, Bool, false, cond, not, ◌&&◌, List, [], ◌∷◌, length, Some, None, Option, ◌==◌, nat_le, nat_lt, slice_index, slice_index_or, slice_set}
 use Rattle.words.specs.Widths.{bytes_of}
 use Rattle.words.specs.Words.{Word, result_of}

@@ -1,6 +1,7 @@
 ghost use Rattle.std.specs.Prelude.{◌≡◌, length};
+ghost use Rattle.std.specs.Bool.{then_some};
 ghost use Rattle.machine.specs.Memory.{total_size};
-ghost use Rattle.engine.specs.Fills.{fill_answer, filled_in};
+ghost use Rattle.engine.specs.Fills.{is_within, filled_in};
 
 use super::place::place;
 use machine::Rule;
@@ -15,7 +16,7 @@ pub fn fill(
     bytes: &[u8],
 ) -> Option<()>
     requires memory { length memory.old ≡ total_size rule.table.now }
-    ensures answer { result ≡ fill_answer rule.entry.table.now buffer offset (length bytes.now) }
+    ensures answer { result ≡ then_some (is_within rule.entry.table.now buffer offset (length bytes.now)) tt }
     ensures memory { memory.new ≡ filled_in rule.entry.table.now memory.old buffer offset bytes.now }
 {
     let at = place(rule, buffer, offset, bytes.len())?;

@@ -2,7 +2,7 @@ ghost use Rattle.std.specs.Prelude.{◌≡◌, ℕ, ◌+◌, ◌≤◌, List, le
 ghost use Rattle.words.specs.Widths.{bytes_of};
 ghost use Rattle.rule.specs.declared.record.Item.TheVariants.{Instruction as Instructs};
 ghost use Rattle.machine.specs.Memory.{total_size};
-ghost use Rattle.engine.specs.Steps.{result_in, is_related, fetched, alu_of, place_in, load_of, stores, branches, stepped, puts, step_of};
+ghost use Rattle.engine.specs.Steps.{fetched, result_in, is_related, alu_of, place_in, load_of, stores, branches, stepped, puts, step_of};
 
 use super::bytes;
 use super::next::Next;
@@ -134,6 +134,9 @@ fn branch(
         Some(Next::Onward)
     }
 }
+
+// The rule, the registers and the memory are passed one by one. A struct of the three could hold the fact of the memory's
+// size, and would need two clauses at each method in its place: it keeps its rule, and its reference to the memory.
 
 /// Carries out one instruction, wherever it stands; nothing comes of one that is stuck.
 pub(crate) fn carry_out(

@@ -4,7 +4,7 @@ use Rattle.machine.specs.Memory.{Finishes}
 use Rattle.machine.specs.Tables.{code_length}
 use Rattle.machine.proofs.Validity.{valid-from}
 use Rattle.engine.specs.declared.ran.Ran.{Ran}
-use Rattle.engine.specs.Steps.{End, end, ended, run_from, run_of}
+use Rattle.engine.specs.Steps.{End, end, ended, run_from}
 use Rattle.engine.proofs.Endings.{words_end, free-finish}
 use Rattle.engine.proofs.course.run.Goals as goal
 
