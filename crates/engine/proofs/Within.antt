@@ -1,4 +1,4 @@
--- Bytes that lie in a buffer lie in the memory, and none that go far beyond do.
+-- Bytes that lie in a buffer lie in the memory, none that go far beyond do, and where there is no buffer there is no size.
 use Rattle.std.proofs.Common.{◌≡◌, ℕ, ◌+◌, ◌-◌, ◌%◌, ◌<◌, ◌≤◌, Bool, true, false, cond, ◌&&◌, eqb, ltb, leb, List, length, get_or, drop, Some, None, sym, refl, ap, ◌∙◌, ⊎_elim, arith}
 use Rattle.std.proofs.lemmas.Bool.{and_parts, and_left, and_right, cases_Bool, cases_lt, both_ways, ltb-true, ltb-false, leb-true, lt-leb, eq-eqb}
 use Rattle.std.proofs.lemmas.List.{get_or-drop, get_or_past}

@@ -10,20 +10,20 @@ use Rattle.engine.proofs.course.drive.Goals.{in-Onward, in-Jump}
 pub returns-in_default : goal.returns-in_default
 returns-in_default c =
     let s = c.loop-steps in
-    sym (stops c.args.rule.table.now c.code-code.result.now c.code-code.ensures s.steps s.at s.registers.words s.memory c.loop-steps-test.true s.invariant.inside c.in_default.not-Instruction)
+    sym (stops c.args.rule.table.now _ c.code-code.ensures _ s.at s.registers.words s.memory c.loop-steps-test.true s.invariant.inside c.in_default.not-Instruction)
     ∙ s.invariant.whole
 
 pub returns-in_err-carry_out : goal.returns-in_err-carry_out
 returns-in_err-carry_out c =
     let s = c.loop-steps in
     ap (λ o. ended o c.carry_out.new.memory) c.from_residual.ensures
-    ∙ sym (sticks c.args.rule.table.now c.code-code.result.now c.code-code.ensures s.steps s.at s.registers.words s.memory c.loop-steps-test.true s.invariant.inside c.in-Instruction.instruction c.in-Instruction.is c.carry_out.result c.carry_out.new.registers.words c.carry_out.new.memory (c.carry_out.ensures s.at) c.in_err-carry_out.was)
+    ∙ sym (sticks c.args.rule.table.now _ c.code-code.ensures _ s.at s.registers.words s.memory c.loop-steps-test.true s.invariant.inside _ c.in-Instruction.is _ c.carry_out.new.registers.words c.carry_out.new.memory (c.carry_out.ensures s.at) c.in_err-carry_out.was)
     ∙ s.invariant.whole
 
 pub returns-in-Return : goal.returns-in-Return
 returns-in-Return c =
     let s = c.loop-steps in
-    sym (goes-out c.args.rule.table.now c.code-code.result.now c.code-code.ensures s.steps s.at s.registers.words s.memory c.loop-steps-test.true s.invariant.inside c.in-Instruction.instruction c.in-Instruction.is c.carry_out.result c.carry_out.new.registers.words c.carry_out.new.memory (c.carry_out.ensures s.at) c.in-Return.answer (c.in_ok-carry_out.was ∙ ap Some c.in-Return.is))
+    sym (goes-out c.args.rule.table.now _ c.code-code.ensures _ s.at s.registers.words s.memory c.loop-steps-test.true s.invariant.inside _ c.in-Instruction.is _ c.carry_out.new.registers.words c.carry_out.new.memory (c.carry_out.ensures s.at) c.in-Return.answer (c.in_ok-carry_out.was ∙ ap Some c.in-Return.is))
     ∙ s.invariant.whole
 
 pub loop-steps-preserved : goal.loop-steps-preserved
@@ -35,7 +35,7 @@ loop-steps-preserved c =
       | in-Onward w ↦ ap (led s.at) w.in-Onward.is ∙ ap Go (sym w.at-is)
       | in-Jump w ↦ ap (led s.at) w.in-Jump.is ∙ ap Go (sym w.at-is)
     ] in
-    let on = goes_on p c.code-code.result.now c.code-code.ensures s.steps s.at s.registers.words s.memory c.loop-steps-test.true s.invariant.inside c.in-Instruction.instruction c.in-Instruction.is c.carry_out.result c.carry_out.new.registers.words c.carry_out.new.memory (c.carry_out.ensures s.at) c.in_ok-carry_out.field-0 j (valid-from p c.args.rule.valid) s.registers.eight c.in_ok-carry_out.was to in
+    let on = goes_on p _ c.code-code.ensures _ s.at s.registers.words s.memory c.loop-steps-test.true s.invariant.inside _ c.in-Instruction.is _ c.carry_out.new.registers.words c.carry_out.new.memory (c.carry_out.ensures s.at) c.in_ok-carry_out.field-0 j (valid-from p c.args.rule.valid) s.registers.eight c.in_ok-carry_out.was to in
     record { whole = sym on.rest ∙ s.invariant.whole; inside = on.within }
 
 pub returns : goal.returns
