@@ -9,9 +9,8 @@ use Rattle.machine.specs.Memory.Runs.{start, more}
 use Rattle.machine.specs.Tables.{code_length, item_at}
 use Rattle.machine.specs.Valid.{Valid}
 use Rattle.machine.proofs.Moving.{forward}
-use Rattle.engine.specs.declared.next.Next.{Next}
-use Rattle.engine.specs.declared.next.Next.TheVariants.{Go, Return}
-use Rattle.engine.specs.Steps.{and_then, Registers, register_of, Step, step, step_of, End, onward, run_from, first_registers, FourWords, run_of}
+use Rattle.engine.specs.Steps.Leads.{Go, Return}
+use Rattle.engine.specs.Steps.{Leads, and_then, RegisterList, register_of, Step, step, step_of, End, onward, run_from, first_registers, FourWords, run_of}
 use Rattle.engine.proofs.Moves.{step_does, step_gives, step-long, moves-steps, entry-is}
 
 -- a run on a memory is one of the free runs
@@ -37,12 +36,12 @@ told (Some x) = inr (x, refl)
 
 module _ (p : List Record) (valid : Valid p) (safe : NeverStuck p) (x : Inputs) (m : List ℕ) where
   -- where control is, after n steps on the memory m
-  pub record Here (n k : ℕ) (r : Registers) (o : List ℕ) : Type 0 where
+  pub record Here (n k : ℕ) (r : RegisterList) (o : List ℕ) : Type 0 where
     pub run : Runs p (entry x) m n k (register_of r) o
     pub inside : k < code_length p
     pub eight : length r ≡ 8
 
-  module _ (n k : ℕ) (r : Registers) (o : List ℕ) (here : Here n k r o) where
+  module _ (n k : ℕ) (r : RegisterList) (o : List ℕ) (here : Here n k r o) where
     -- there is a step
     pub steps_on : step_of p k (item_at p k) r o ≡ None → ⊥
     steps_on none =
@@ -50,7 +49,7 @@ module _ (p : List Record) (valid : Valid p) (safe : NeverStuck p) (x : Inputs) 
         ∥∥₁_elim (safe state) (λ a b. absurd a) (λ h. moves-steps p k r o here.eight (item_at p k) h.2 none)
 
     -- after it control is at a later instruction
-    pub goes_on : (j : ℕ) (r' : Registers) (o' : List ℕ) → step_of p k (item_at p k) r o ≡ Some (step (Go j) r' o') → Here (n + 1) j r' o' × (k < j)
+    pub goes_on : (j : ℕ) (r' : RegisterList) (o' : List ℕ) → step_of p k (item_at p k) r o ≡ Some (step (Go j) r' o') → Here (n + 1) j r' o' × (k < j)
     goes_on j r' o' e =
         let d = step_does p k r o here.eight (code_length p) (item_at p k) j r' o' (valid.items k here.inside) e in
         let on = forward p k (register_of r) j (register_of r') valid here.inside d.0 in (
@@ -62,7 +61,7 @@ module _ (p : List Record) (valid : Valid p) (safe : NeverStuck p) (x : Inputs) 
           on.0,
         )
 
-    pub returns-here : (w : ℕ) (r' : Registers) (o' : List ℕ) → step_of p k (item_at p k) r o ≡ Some (step (Return w) r' o') → Finishes p (words_in x) m w (n + 1) o'
+    pub returns-here : (w : ℕ) (r' : RegisterList) (o' : List ℕ) → step_of p k (item_at p k) r o ≡ Some (step (Return w) r' o') → Finishes p (words_in x) m w (n + 1) o'
     returns-here w r' o' e =
         let g = step_gives p k r o here.eight (item_at p k) w r' o' e in
         record {
@@ -81,13 +80,13 @@ module _ (p : List Record) (valid : Valid p) (safe : NeverStuck p) (x : Inputs) 
   abbrev Ends : Option End → Type 0
   Ends o = (e : End) × (o ≡ Some e) × Finishes p (words_in x) m e.answer e.steps e.memory
 
-  ends_next : (fuel n k : ℕ) (r : Registers) (o : List ℕ) (here : Here n k r o) → code_length p ≤ k + suc fuel →
-      ((n' j : ℕ) (r' : Registers) (o' : List ℕ) → Here n' j r' o' → code_length p ≤ j + fuel → Ends (run_from p fuel n' j r' o')) →
-      (i : Next) (r' : Registers) (o' : List ℕ) → step_of p k (item_at p k) r o ≡ Some (step i r' o') → Ends (onward (run_from p fuel) n i r' o')
+  ends_next : (fuel n k : ℕ) (r : RegisterList) (o : List ℕ) (here : Here n k r o) → code_length p ≤ k + suc fuel →
+      ((n' j : ℕ) (r' : RegisterList) (o' : List ℕ) → Here n' j r' o' → code_length p ≤ j + fuel → Ends (run_from p fuel n' j r' o')) →
+      (i : Leads) (r' : RegisterList) (o' : List ℕ) → step_of p k (item_at p k) r o ≡ Some (step i r' o') → Ends (onward (run_from p fuel) n i r' o')
   ends_next fuel n k r o here h further (Go j) r' o' e = let g = goes_on n k r o here j r' o' e in further (n + 1) j r' o' g.0 (omega (arith, g.1))
   ends_next fuel n k r o here h further (Return w) r' o' e = (record { answer = w; steps = n + 1; memory = o' }, refl, returns-here n k r o here w r' o' e)
 
-  pub ends : (fuel n k : ℕ) (r : Registers) (o : List ℕ) → Here n k r o → code_length p ≤ k + fuel → Ends (run_from p fuel n k r o)
+  pub ends : (fuel n k : ℕ) (r : RegisterList) (o : List ℕ) → Here n k r o → code_length p ≤ k + fuel → Ends (run_from p fuel n k r o)
   unfolding run_from
   ends zero n k r o here h = let inside = here.inside in absurd (omega arith)
   ends (suc fuel) n k r o here h =

@@ -1,5 +1,6 @@
 pub mod Driving
 pub mod Endings
+pub mod Loading
 pub mod Moves
 pub mod Untouched
 pub mod Within

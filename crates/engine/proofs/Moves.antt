@@ -2,19 +2,22 @@
 use Rattle.std.proofs.Common.{◌≡◌, ℕ, zero, suc, ◌+◌, ◌%◌, ◌^◌, ◌<◌, true, false, cond, ◌&&◌, eqb, leb, List, length, get_or, set, Some, None, Option, sym, refl, ap, ◌∙◌, subst, ⊎_elim, arith}
 use Rattle.std.proofs.lemmas.List.{get_or-set_same, get_or-set_other, length-set}
 use Rattle.std.proofs.lemmas.Bool.{cases_Bool, cases_eq, cond-true, cond-false, and_parts, and_from, both_ways, eqb-true, eqb-false, eq-eqb, ne_eqb, ltb-true, ltb-false, leb-true, leb-false, le-leb, not-true, not-false}
+use Rattle.std.proofs.lemmas.Option.{none-some, same_Some, cond_some}
 use Rattle.words.specs.Widths.{bits_of, bytes_of}
 use Rattle.words.specs.Words.{Sticks, Related, result_of}
 use Rattle.words.specs.declared.operation.Operation.{Operation}
 use Rattle.words.specs.declared.operation.Operation.TheVariants.{Add, Sub, Mul, Div, And, Or, Xor, Shl, Shr}
 use Rattle.words.specs.declared.width.Width.{Width}
-use Rattle.rule.specs.declared.record.Condition.{Condition}
-use Rattle.rule.specs.declared.record.Condition.TheVariants.{Equal, Unequal, Less, LessOrEqual}
+use Rattle.rule.specs.declared.instruction.Condition.{Condition}
+use Rattle.rule.specs.declared.instruction.Condition.TheVariants.{Equal, Unequal, Less, LessOrEqual}
 use Rattle.rule.specs.declared.record.Item.{Item}
-use Rattle.rule.specs.declared.record.Item.TheVariants.{Blank, Buffer, Mov, Alu, Load, Store, Jump, Branch, Ret}
-use Rattle.rule.specs.declared.record.Operand.{Operand}
-use Rattle.rule.specs.declared.record.Operand.TheVariants.{Register, Constant}
+use Rattle.rule.specs.declared.record.Item.TheVariants.{Blank, Buffer, Instruction}
+use Rattle.rule.specs.declared.instruction.Instruction.TheVariants.{Mov, Alu, Load, Store, Jump, Branch, Ret}
+use Rattle.rule.specs.declared.instruction.Operand.{Operand}
+use Rattle.rule.specs.declared.instruction.Operand.TheVariants.{Register, Constant}
 use Rattle.rule.specs.declared.record.Record.{Record}
-use Rattle.machine.specs.Machine.{Regs, put, value, relation_of, Reaches, Does, Gives, Moves, Inputs, entry}
+use Rattle.rule.specs.Instructions.{relation_of}
+use Rattle.machine.specs.Machine.{Regs, put, value, Reaches, Does, Gives, Moves, Inputs, entry}
 use Rattle.machine.specs.Machine.Does.{mov, alu, load, store, jump, taken, missed}
 use Rattle.machine.specs.Machine.Gives.{ret}
 use Rattle.machine.specs.Memory.{start_of, word_of, bytes_in, part, written, words_in, Touches}
@@ -22,14 +25,10 @@ use Rattle.machine.specs.Tables.{size_at}
 use Rattle.machine.specs.Valid.{ValidItem}
 use Rattle.machine.proofs.Bytes.{width_below}
 use Rattle.machine.proofs.Moving.{some_same}
-use Rattle.engine.specs.declared.next.Next.{Next}
-use Rattle.engine.specs.declared.next.Next.TheVariants.{Go, Return}
-use Rattle.engine.specs.Steps.{and_then, Registers, register_of, fetched, sticks, result_in, place_in, is_related, alu_of, load_of, store_of, branch_of, Step, step, goes, puts, step_of, first_registers}
+use Rattle.engine.specs.Steps.Leads.{Go, Return}
+use Rattle.engine.specs.Steps.{Leads, and_then, RegisterList, register_of, fetched, sticks, result_in, place_in, is_related, alu_of, load_of, store_of, branch_of, Step, step, goes, puts, step_of, first_registers}
 
 -- ── options ──
-
-none-some : {X : Type 0} (x : X) → ◌≡◌ {A = Option X} None (Some x) → ⊥
-none-some x e = let z : ◌≡◌ {A = ℕ} 0 1 = cc in omega arith
 
 -- what came of two questions in a row
 pub and_then_parts : {X Y : Type 0} (o : Option X) (f : X → Option Y) (y : Y) → and_then o f ≡ Some y → (x : X) × (o ≡ Some x) × (f x ≡ Some y)
@@ -40,12 +39,9 @@ and_then_parts (Some x) f y e = (x, refl, e)
 then_some : {X Y : Type 0} (o : Option X) (f : X → Option Y) (x : X) (y : Y) → o ≡ Some x → f x ≡ Some y → and_then o f ≡ Some y
 then_some {X} {Y} o f x y e h = ap (λ (z : Option X). and_then z f) e ∙ h
 
-pub some_is : {X : Type 0} (x y : X) → ◌≡◌ {A = Option X} (Some x) (Some y) → x ≡ y
-some_is x y e = cc
-
-same_step : (n n' : Next) (r r' : Registers) (m m' : List ℕ) → Some (step n r m) ≡ Some (step n' r' m') → (n ≡ n') × (r ≡ r') × (m ≡ m')
+same_step : (n n' : Leads) (r r' : RegisterList) (m m' : List ℕ) → Some (step n r m) ≡ Some (step n' r' m') → (n ≡ n') × (r ≡ r') × (m ≡ m')
 same_step n n' r r' m m' e =
-    let is = some_is (step n r m) (step n' r' m') e in
+    let is = same_Some (step n r m) (step n' r' m') e in
     (ap (λ (s : Step). s.next) is, ap (λ (s : Step). s.registers) is, ap (λ (s : Step). s.memory) is)
 
 go-is : (k j : ℕ) → Go k ≡ Go j → k ≡ j
@@ -59,18 +55,18 @@ go_return k x e = let z : ◌≡◌ {A = ℕ} 0 1 = cc in omega arith
 
 -- ── the parts of a step ──
 
-fetched-value : (r : Registers) (s : Operand) → fetched r s ≡ value (register_of r) s
+fetched-value : (r : RegisterList) (s : Operand) → fetched r s ≡ value (register_of r) s
 fetched-value r (Register k) = refl
 fetched-value r (Constant c) = refl
 
-put-at : (r : Registers) (t x : ℕ) → t < length r → (k : ℕ) → register_of (set r t (Some x)) k ≡ put (register_of r) t x k
+put-at : (r : RegisterList) (t x : ℕ) → t < length r → (k : ℕ) → register_of (set r t (Some x)) k ≡ put (register_of r) t x k
 put-at r t x h k =
     ⊎_elim
     (λ same. ap (λ j. get_or (set r t (Some x)) j None) same ∙ get_or-set_same r t (Some x) None h ∙ sym (cond-true (eqb k t) _ _ (eq-eqb k t same)))
     (λ ne. get_or-set_other r t k (Some x) None ne ∙ sym (cond-false (eqb k t) _ _ (ne_eqb k t ne)))
     (cases_eq k t)
 
-put-set : (r : Registers) (t x : ℕ) → t < length r → register_of (set r t (Some x)) ≡ put (register_of r) t x
+put-set : (r : RegisterList) (t x : ℕ) → t < length r → register_of (set r t (Some x)) ≡ put (register_of r) t x
 put-set r t x h = λ i k. put-at r t x h k i
 
 free-from : (op : Operation) (y : ℕ) → sticks op y ≡ false → Sticks op y → ⊥
@@ -99,7 +95,7 @@ result_from : (op : Operation) (x y z : ℕ) → result_in op x y ≡ Some z →
 result_from op x y z e =
     ⊎_elim
     (λ t. absurd (none-some z (sym (cond-true (sticks op y) _ _ t) ∙ e)))
-    (λ f. (free-from op y f, some_is z (result_of op x y) (sym e ∙ cond-false (sticks op y) _ _ f)))
+    (λ f. (free-from op y f, same_Some z (result_of op x y) (sym e ∙ cond-false (sticks op y) _ _ f)))
     (cases_Bool (sticks op y))
 
 result_is : (op : Operation) (x y : ℕ) → (Sticks op y → ⊥) → result_in op x y ≡ Some (result_of op x y)
@@ -109,12 +105,9 @@ place-from : (p : List Record) (b : ℕ) (w : Width) (i a : ℕ) → place_in p 
 place-from p b w i a e =
     let within = leb (i + bytes_of w) (size_at p b) in
     let even = eqb (i % bytes_of w) 0 in
-    ⊎_elim
-    (λ t.
-    let h = and_parts within even t in
-    (record { inside = leb-true _ _ h.0; even = eqb-true _ _ h.1 }, some_is a (start_of p b + i) (sym e ∙ cond-true (within && even) _ _ t)))
-    (λ f. absurd (none-some a (sym (cond-false (within && even) _ _ f) ∙ e)))
-    (cases_Bool (within && even))
+    let is = cond_some (within && even) (start_of p b + i) a e in
+    let h = and_parts within even is.0 in
+    (record { inside = leb-true _ _ h.0; even = eqb-true _ _ h.1 }, sym is.1)
 
 place_is : (p : List Record) (b : ℕ) (w : Width) (i : ℕ) → Reaches p b w i → place_in p b w i ≡ Some (start_of p b + i)
 place_is p b w i h = cond-true _ _ _ (and_from (leb (i + bytes_of w) (size_at p b)) (eqb (i % bytes_of w) 0) (le-leb _ _ h.inside) (eq-eqb _ _ h.even))
@@ -133,33 +126,33 @@ unrelated_from LessOrEqual x y e h = let g = leb-false x y e in omega arith
 
 -- ── a step that goes on ──
 
-module _ (p : List Record) (k : ℕ) (r : Registers) (m : List ℕ) (eight : length r ≡ 8) where
+module _ (p : List Record) (k : ℕ) (r : RegisterList) (m : List ℕ) (eight : length r ≡ 8) where
   -- a register that is put
-  abbrev Put : ℕ → Option ℕ → ℕ → Registers → List ℕ → Type 0
+  abbrev Put : ℕ → Option ℕ → ℕ → RegisterList → List ℕ → Type 0
   Put t v j r' m' = (x : ℕ) × (v ≡ Some x) × (j ≡ k + 1) × (register_of r' ≡ put (register_of r) t x) × (m' ≡ m)
 
-  put-from : (t : ℕ) (v : Option ℕ) (j : ℕ) (r' : Registers) (m' : List ℕ) → t < 8 → puts k t r m v ≡ Some (step (Go j) r' m') → Put t v j r' m'
+  put-from : (t : ℕ) (v : Option ℕ) (j : ℕ) (r' : RegisterList) (m' : List ℕ) → t < 8 → puts k t r m v ≡ Some (step (Go j) r' m') → Put t v j r' m'
   put-from t v j r' m' h e =
       let a = and_then_parts v (λ x. goes (k + 1) (set r t (Some x)) m) (step (Go j) r' m') e in
       let s = same_step (Go (k + 1)) (Go j) (set r t (Some a.0)) r' m m' a.2 in
       (a.0, a.1, sym (go-is (k + 1) j s.0), ap register_of (sym s.1) ∙ put-set r t a.0 (omega arith), sym s.2)
 
-  pub step_does : (n : ℕ) (i : Item) (j : ℕ) (r' : Registers) (m' : List ℕ) → ValidItem p n k i → step_of p k i r m ≡ Some (step (Go j) r' m') → Does p k (register_of r) j (register_of r') i × Touches p (register_of r) m (register_of r') m' i
-  step_does n (Mov t s) j r' m' v e =
+  pub step_does : (n : ℕ) (i : Item) (j : ℕ) (r' : RegisterList) (m' : List ℕ) → ValidItem p n k i → step_of p k i r m ≡ Some (step (Go j) r' m') → Does p k (register_of r) j (register_of r') i × Touches p (register_of r) m (register_of r') m' i
+  step_does n (Instruction (Mov t s)) j r' m' v e =
       let a = put-from t (fetched r s) j r' m' v.0 e in
       (mov a.0 (sym (fetched-value r s) ∙ a.1) a.2 a.3, a.4)
-  step_does n (Alu op t s) j r' m' v e =
+  step_does n (Instruction (Alu op t s)) j r' m' v e =
       let a = put-from t (alu_of r op t s) j r' m' v.0 e in
       let b = and_then_parts (register_of r t) _ a.0 a.1 in
       let c = and_then_parts (fetched r s) _ a.0 b.2 in
       let z = result_from op b.0 c.0 a.0 c.2 in
       (alu b.0 c.0 b.1 (sym (fetched-value r s) ∙ c.1) z.0 a.2 (a.3 ∙ ap (put (register_of r) t) z.1), a.4)
-  step_does n (Load w t b s) j r' m' v e =
+  step_does n (Instruction (Load w t b s)) j r' m' v e =
       let a = put-from t (load_of p r m w b s) j r' m' v.0 e in
       let c = and_then_parts (fetched r s) _ a.0 a.1 in
       let f = and_then_parts (place_in p b w c.0) _ a.0 c.2 in
       let at = place-from p b w c.0 f.0 f.1 in
-      let read : word_of (part m (start_of p b + c.0) (bytes_of w)) ≡ a.0 = ap (λ i. word_of (part m i (bytes_of w))) (sym at.1) ∙ some_is _ _ f.2 in
+      let read : word_of (part m (start_of p b + c.0) (bytes_of w)) ≡ a.0 = ap (λ i. word_of (part m i (bytes_of w))) (sym at.1) ∙ same_Some _ _ f.2 in
       let index = sym (fetched-value r s) ∙ c.1 in (
         load c.0 a.0 index at.0 (subst (λ x. x < 2 ^ bits_of w) read (width_below w m (start_of p b + c.0))) a.2 a.3,
         (
@@ -168,7 +161,7 @@ module _ (p : List Record) (k : ℕ) (r : Registers) (m : List ℕ) (eight : len
           a.4,
         ),
       )
-  step_does n (Store w b s t) j r' m' v e =
+  step_does n (Instruction (Store w b s t)) j r' m' v e =
       let a = and_then_parts (store_of p r m w b s t) _ (step (Go j) r' m') e in
       let g = same_step (Go (k + 1)) (Go j) r r' a.0 m' a.2 in
       let c = and_then_parts (fetched r s) _ a.0 a.1 in
@@ -176,22 +169,22 @@ module _ (p : List Record) (k : ℕ) (r : Registers) (m : List ℕ) (eight : len
       let f = and_then_parts (place_in p b w c.0) _ a.0 x.2 in
       let at = place-from p b w c.0 f.0 f.1 in
       let index = sym (fetched-value r s) ∙ c.1 in
-      let after : m' ≡ written m (start_of p b + c.0) (bytes_in (bytes_of w) x.0) = sym g.2 ∙ sym (some_is _ _ f.2) ∙ ap (λ i. written m i (bytes_in (bytes_of w) x.0)) at.1 in (
+      let after : m' ≡ written m (start_of p b + c.0) (bytes_in (bytes_of w) x.0) = sym g.2 ∙ sym (same_Some _ _ f.2) ∙ ap (λ i. written m i (bytes_in (bytes_of w) x.0)) at.1 in (
         store c.0 x.0 index x.1 at.0 (sym (go-is (k + 1) j g.0)) (ap register_of (sym g.1)),
         λ i y ei ey.
             let same-i = some_same (value (register_of r) s) c.0 i index ei in
             let same-y = some_same (register_of r t) x.0 y x.1 ey in
             after ∙ (λ u. written m (start_of p b + same-i u) (bytes_in (bytes_of w) (same-y u))),
       )
-  step_does n (Jump to) j r' m' v e =
+  step_does n (Instruction (Jump to)) j r' m' v e =
       let g = same_step (Go to) (Go j) r r' m m' e in
       (jump (sym (go-is to j g.0)) (ap register_of (sym g.1)), sym g.2)
-  step_does n (Branch c l s to) j r' m' v e =
+  step_does n (Instruction (Branch c l s to)) j r' m' v e =
       let a = and_then_parts (branch_of r k c l s to) _ (step (Go j) r' m') e in
       let g = same_step (Go a.0) (Go j) r r' m m' a.2 in
       let x = and_then_parts (register_of r l) _ a.0 a.1 in
       let y = and_then_parts (fetched r s) _ a.0 x.2 in
-      let leads = sym (go-is a.0 j g.0) ∙ sym (some_is _ _ y.2) in
+      let leads = sym (go-is a.0 j g.0) ∙ sym (same_Some _ _ y.2) in
       let right = sym (fetched-value r s) ∙ y.1 in
       let same = ap register_of (sym g.1) in (
         ⊎_elim
@@ -200,7 +193,7 @@ module _ (p : List Record) (k : ℕ) (r : Registers) (m : List ℕ) (eight : len
             (cases_Bool (is_related c x.0 y.0)),
         sym g.2,
       )
-  step_does n Ret j r' m' v e =
+  step_does n (Instruction Ret) j r' m' v e =
       let a = and_then_parts (register_of r 0) _ (step (Go j) r' m') e in
       absurd (go_return j a.0 (sym (same_step (Return a.0) (Go j) r r' m m' a.2).0))
   step_does n (Buffer size mode) j r' m' v e = absurd v
@@ -208,23 +201,23 @@ module _ (p : List Record) (k : ℕ) (r : Registers) (m : List ℕ) (eight : len
 
   -- ── a step that returns ──
 
-  put-goes : (t : ℕ) (v : Option ℕ) (x : ℕ) (r' : Registers) (m' : List ℕ) → puts k t r m v ≡ Some (step (Return x) r' m') → ⊥
+  put-goes : (t : ℕ) (v : Option ℕ) (x : ℕ) (r' : RegisterList) (m' : List ℕ) → puts k t r m v ≡ Some (step (Return x) r' m') → ⊥
   put-goes t v x r' m' e =
       let a = and_then_parts v (λ y. goes (k + 1) (set r t (Some y)) m) (step (Return x) r' m') e in
       go_return (k + 1) x (same_step (Go (k + 1)) (Return x) (set r t (Some a.0)) r' m m' a.2).0
 
-  pub step_gives : (i : Item) (x : ℕ) (r' : Registers) (m' : List ℕ) → step_of p k i r m ≡ Some (step (Return x) r' m') → Gives (register_of r) x i × (m' ≡ m)
-  step_gives (Mov t s) x r' m' e = absurd (put-goes t (fetched r s) x r' m' e)
-  step_gives (Alu op t s) x r' m' e = absurd (put-goes t (alu_of r op t s) x r' m' e)
-  step_gives (Load w t b s) x r' m' e = absurd (put-goes t (load_of p r m w b s) x r' m' e)
-  step_gives (Store w b s t) x r' m' e =
+  pub step_gives : (i : Item) (x : ℕ) (r' : RegisterList) (m' : List ℕ) → step_of p k i r m ≡ Some (step (Return x) r' m') → Gives (register_of r) x i × (m' ≡ m)
+  step_gives (Instruction (Mov t s)) x r' m' e = absurd (put-goes t (fetched r s) x r' m' e)
+  step_gives (Instruction (Alu op t s)) x r' m' e = absurd (put-goes t (alu_of r op t s) x r' m' e)
+  step_gives (Instruction (Load w t b s)) x r' m' e = absurd (put-goes t (load_of p r m w b s) x r' m' e)
+  step_gives (Instruction (Store w b s t)) x r' m' e =
       let a = and_then_parts (store_of p r m w b s t) _ (step (Return x) r' m') e in
       absurd (go_return (k + 1) x (same_step (Go (k + 1)) (Return x) r r' a.0 m' a.2).0)
-  step_gives (Jump to) x r' m' e = absurd (go_return to x (same_step (Go to) (Return x) r r' m m' e).0)
-  step_gives (Branch c l s to) x r' m' e =
+  step_gives (Instruction (Jump to)) x r' m' e = absurd (go_return to x (same_step (Go to) (Return x) r r' m m' e).0)
+  step_gives (Instruction (Branch c l s to)) x r' m' e =
       let a = and_then_parts (branch_of r k c l s to) _ (step (Return x) r' m') e in
       absurd (go_return a.0 x (same_step (Go a.0) (Return x) r r' m m' a.2).0)
-  step_gives Ret x r' m' e =
+  step_gives (Instruction Ret) x r' m' e =
       let a = and_then_parts (register_of r 0) _ (step (Return x) r' m') e in
       let g = same_step (Return a.0) (Return x) r r' m m' a.2 in
       (ret (a.1 ∙ ap Some (return_is a.0 x g.0)), sym g.2)
@@ -236,36 +229,36 @@ module _ (p : List Record) (k : ℕ) (r : Registers) (m : List ℕ) (eight : len
   put-long : (t : ℕ) (v : Option ℕ) (s : Step) → puts k t r m v ≡ Some s → length s.registers ≡ 8
   put-long t v s e =
       let a = and_then_parts v (λ x. goes (k + 1) (set r t (Some x)) m) s e in
-      ap (λ (s : Step). length s.registers) (sym (some_is _ s a.2)) ∙ length-set r t (Some a.0) ∙ eight
+      ap (λ (s : Step). length s.registers) (sym (same_Some _ s a.2)) ∙ length-set r t (Some a.0) ∙ eight
 
-  same-long : (n : Next) (m' : List ℕ) (s : Step) → Some (step n r m') ≡ Some s → length s.registers ≡ 8
-  same-long n m' s e = ap (λ (s : Step). length s.registers) (sym (some_is (step n r m') s e)) ∙ eight
+  same-long : (n : Leads) (m' : List ℕ) (s : Step) → Some (step n r m') ≡ Some s → length s.registers ≡ 8
+  same-long n m' s e = ap (λ (s : Step). length s.registers) (sym (same_Some (step n r m') s e)) ∙ eight
 
   pub step-long : (i : Item) (s : Step) → step_of p k i r m ≡ Some s → length s.registers ≡ 8
-  step-long (Mov t s) z e = put-long t (fetched r s) z e
-  step-long (Alu op t s) z e = put-long t (alu_of r op t s) z e
-  step-long (Load w t b s) z e = put-long t (load_of p r m w b s) z e
-  step-long (Store w b s t) z e = let a = and_then_parts (store_of p r m w b s t) _ z e in same-long (Go (k + 1)) a.0 z a.2
-  step-long (Jump to) z e = same-long (Go to) m z e
-  step-long (Branch c l s to) z e = let a = and_then_parts (branch_of r k c l s to) _ z e in same-long (Go a.0) m z a.2
-  step-long Ret z e = let a = and_then_parts (register_of r 0) _ z e in same-long (Return a.0) m z a.2
+  step-long (Instruction (Mov t s)) z e = put-long t (fetched r s) z e
+  step-long (Instruction (Alu op t s)) z e = put-long t (alu_of r op t s) z e
+  step-long (Instruction (Load w t b s)) z e = put-long t (load_of p r m w b s) z e
+  step-long (Instruction (Store w b s t)) z e = let a = and_then_parts (store_of p r m w b s t) _ z e in same-long (Go (k + 1)) a.0 z a.2
+  step-long (Instruction (Jump to)) z e = same-long (Go to) m z e
+  step-long (Instruction (Branch c l s to)) z e = let a = and_then_parts (branch_of r k c l s to) _ z e in same-long (Go a.0) m z a.2
+  step-long (Instruction Ret) z e = let a = and_then_parts (register_of r 0) _ z e in same-long (Return a.0) m z a.2
   step-long (Buffer size mode) z e = absurd (none-some z e)
   step-long Blank z e = absurd (none-some z e)
 
   -- ── a machine that can move ──
 
   does_steps : (j : ℕ) (q : Regs) (i : Item) → Does p k (register_of r) j q i → (s : Step) × (step_of p k i r m ≡ Some s)
-  does_steps j q (Mov t s) (mov x e ej eq) = (_, then_some (fetched r s) _ x _ (fetched-value r s ∙ e) refl)
-  does_steps j q (Alu op t s) (alu x y ex ey ok ej eq) =
+  does_steps j q (Instruction (Mov t s)) (mov x e ej eq) = (_, then_some (fetched r s) _ x _ (fetched-value r s ∙ e) refl)
+  does_steps j q (Instruction (Alu op t s)) (alu x y ex ey ok ej eq) =
       (_, then_some (alu_of r op t s) _ (result_of op x y) _ (then_some (register_of r t) _ x _ ex (then_some (fetched r s) _ y _ (fetched-value r s ∙ ey) (result_is op x y ok))) refl)
-  does_steps j q (Load w t b s) (load i x e re hx ej eq) =
+  does_steps j q (Instruction (Load w t b s)) (load i x e re hx ej eq) =
       (_, then_some (load_of p r m w b s) _ (word_of (part m (start_of p b + i) (bytes_of w))) _ (then_some (fetched r s) _ i _ (fetched-value r s ∙ e) (then_some (place_in p b w i) _ (start_of p b + i) _ (place_is p b w i re) refl)) refl)
-  does_steps j q (Store w b s t) (store i x e ex re ej eq) =
+  does_steps j q (Instruction (Store w b s t)) (store i x e ex re ej eq) =
       (_, then_some (store_of p r m w b s t) _ (written m (start_of p b + i) (bytes_in (bytes_of w) x)) _ (then_some (fetched r s) _ i _ (fetched-value r s ∙ e) (then_some (register_of r t) _ x _ ex (then_some (place_in p b w i) _ (start_of p b + i) _ (place_is p b w i re) refl))) refl)
-  does_steps j q (Jump to) (jump ej eq) = (_, refl)
-  does_steps j q (Branch c l s to) (taken x y ex ey re ej eq) = (_, then_some (branch_of r k c l s to) _ (cond (is_related c x y) to (k + 1)) _ (then_some (register_of r l) _ x _ ex (then_some (fetched r s) _ y _ (fetched-value r s ∙ ey) refl)) refl)
-  does_steps j q (Branch c l s to) (missed x y ex ey re ej eq) = (_, then_some (branch_of r k c l s to) _ (cond (is_related c x y) to (k + 1)) _ (then_some (register_of r l) _ x _ ex (then_some (fetched r s) _ y _ (fetched-value r s ∙ ey) refl)) refl)
-  does_steps j q Ret d = elim d [ ]
+  does_steps j q (Instruction (Jump to)) (jump ej eq) = (_, refl)
+  does_steps j q (Instruction (Branch c l s to)) (taken x y ex ey re ej eq) = (_, then_some (branch_of r k c l s to) _ (cond (is_related c x y) to (k + 1)) _ (then_some (register_of r l) _ x _ ex (then_some (fetched r s) _ y _ (fetched-value r s ∙ ey) refl)) refl)
+  does_steps j q (Instruction (Branch c l s to)) (missed x y ex ey re ej eq) = (_, then_some (branch_of r k c l s to) _ (cond (is_related c x y) to (k + 1)) _ (then_some (register_of r l) _ x _ ex (then_some (fetched r s) _ y _ (fetched-value r s ∙ ey) refl)) refl)
+  does_steps j q (Instruction Ret) d = elim d [ ]
   does_steps j q (Buffer size mode) d = elim d [ ]
   does_steps j q Blank d = elim d [ ]
 

@@ -5,7 +5,9 @@ mod bytes;
 mod course;
 mod filling;
 mod next;
+mod place;
 mod ran;
+mod registers;
 mod step;
 
 pub use course::run;

@@ -1,6 +1,7 @@
-/// Where a step leads: to an instruction, or out of the rule with a word.
-#[derive(Clone, Copy)]
+/// Where a step leads: on to the next instruction, to another one, or out of the rule with a word.
+#[derive(Clone, Copy, PartialEq, Eq, Debug)]
 pub enum Next {
-    Go(usize),
+    Onward,
+    Jump(usize),
     Return(u64),
 }

@@ -5,6 +5,8 @@ use Rattle.engine.proofs.course.drive.Given as goal
 
 -- what is left of the run gives the whole
 abbrev pub invariant-loop-steps : goal.invariant-loop-steps
-invariant-loop-steps l =
-    (run_from l.table (code_length l.table - l.steps) l.steps l.at l.registers l.memory ≡ run_from l.table (code_length l.table) 0 0 l.initial.registers l.initial.memory)
-    × (l.at < code_length l.table)
+invariant-loop-steps l = record {
+  whole : run_from l.rule.table.now (code_length l.rule.table.now - l.steps) l.steps l.at l.registers.words l.memory
+      ≡ run_from l.rule.table.now (code_length l.rule.table.now) 0 0 l.fn.registers.words l.initial.memory;
+  inside : l.at < code_length l.rule.table.now;
+}

@@ -1,28 +1,37 @@
-use Rattle.std.proofs.Common.{◌≡◌, ℕ, Some, None, sym, ap, ◌∙◌, subst, arith}
+use Rattle.std.proofs.Common.{◌≡◌, ℕ, List, Some, None, Option, sym, ap, ◌∙◌, subst, rules}
+use Rattle.std.specs.Option.{IsSome}
 use Rattle.machine.specs.Memory.{Finishes}
 use Rattle.machine.specs.Tables.{code_length}
-use Rattle.engine.specs.Steps.{End, end, run_from}
+use Rattle.machine.proofs.Validity.{valid-from}
+use Rattle.engine.specs.declared.ran.Ran.{Ran}
+use Rattle.engine.specs.Steps.{End, end, ended, run_from}
 use Rattle.engine.proofs.Endings.{words_end, free-finish}
 use Rattle.engine.proofs.course.run.Goals as goal
 
-pub unreachable-requires : goal.unreachable-requires
-unreachable-requires c =
-    let p = c.args.table.now in
-    let m = c.args.memory.now in
-    let e = words_end p c.args.words m c.requires.valid c.requires.safe c.first_registers-registers.ensures.words in
-    let none : None ≡ Some e.0 = c.in-None.ensures ∙ ap (λ r. run_from p (code_length p) 0 0 r m) c.first_registers-registers.ensures.value ∙ e.1 in
-    let z : ◌≡◌ {A = ℕ} 0 1 = cc in
-    omega arith
+ran-some : (o : Option Ran) (m : List ℕ) (e : End) → ended o m ≡ Some e → IsSome o
+ran-some None m e h = cc
+ran-some (Some x) m e h = search rules
 
-pub returns : goal.returns
-returns c =
-    let p = c.args.table.now in
+pub unwrap-requires : goal.unwrap-requires
+unwrap-requires c =
+    let p = c.args.rule.table.now in
     let m = c.args.memory.now in
-    let ran = c.in-Some.ran in
-    let m' = c.drive.new.memory in
-    let e = words_end p c.args.words m c.requires.valid c.requires.safe c.first_registers-registers.ensures.words in
-    let value = sym (c.in-Some.ensures ∙ ap (λ r. run_from p (code_length p) 0 0 r m) c.first_registers-registers.ensures.value) in
-    let some : Some e.0 ≡ Some (end ran m') = sym e.1 ∙ value in
-    let same : e.0 ≡ end ran m' = cc in
-    let finishes = subst (λ (z : End). Finishes p c.args.words m z.answer z.steps z.memory) same e.2 in
-    record { value = value; finishes = finishes; free = free-finish p c.args.words m ran.answer ran.steps m' finishes }
+    let e = words_end p c.args.words m (valid-from p c.args.rule.valid) c.requires.safe c.start.ensures.words in
+    ran-some c.drive.result c.drive.new.memory e.0 (c.drive.ensures ∙ ap (λ r. run_from p (code_length p) 0 0 r m) c.start.ensures.value ∙ e.1)
+
+-- the run is that of the machine
+finishes : (c : goal.After-unwrap) → Finishes c.args.rule.table.now c.args.words c.args.memory.now c.unwrap.result.answer c.unwrap.result.steps c.drive.new.memory
+finishes c =
+    let p = c.args.rule.table.now in
+    let m = c.args.memory.now in
+    let o = c.drive.new.memory in
+    let e = words_end p c.args.words m (valid-from p c.args.rule.valid) c.requires.safe c.start.ensures.words in
+    let some : Some (end c.unwrap.result o) ≡ Some e.0 = ap (λ r. ended r o) (sym c.unwrap.ensures) ∙ c.drive.ensures ∙ ap (λ r. run_from p (code_length p) 0 0 r m) c.start.ensures.value ∙ e.1 in
+    let same : e.0 ≡ end c.unwrap.result o = cc in
+    subst (λ (z : End). Finishes p c.args.words m z.answer z.steps z.memory) same e.2
+
+pub returns-clause-finishes : goal.returns-clause-finishes
+returns-clause-finishes c = finishes c
+
+pub returns-clause-free : goal.returns-clause-free
+returns-clause-free c = free-finish c.args.rule.table.now c.args.words c.args.memory.now c.unwrap.result.answer c.unwrap.result.steps c.drive.new.memory (finishes c)
