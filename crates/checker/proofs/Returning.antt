@@ -12,7 +12,7 @@ use Rattle.machine.specs.Tables.{code_length, item_at}
 use Rattle.machine.proofs.Moving.{not_stuck}
 
 abbrev returning : ℕ → List Record
-returning w = record { line = 0; item = Mov 0 (Constant w) } ∷ record { line = 0; item = (Instruction Ret) } ∷ []
+returning w = record { line = 0; item = Instruction (Mov 0 (Constant w)) } ∷ record { line = 0; item = Instruction Ret } ∷ []
 
 -- control is at the first instruction, or at the second with r0 set
 abbrev There : ℕ → ℕ → Regs → Type 0

@@ -7,4 +7,4 @@ use Rattle.rule.specs.declared.record.Record.{Record}
 
 -- no buffers, `mov r0 0` and `ret`
 abbrev pub built_in : List Record
-built_in = record { line = 0; item = Mov 0 (Constant 0) } ∷ record { line = 0; item = (Instruction Ret) } ∷ []
+built_in = record { line = 0; item = Instruction (Mov 0 (Constant 0)) } ∷ record { line = 0; item = Instruction Ret } ∷ []

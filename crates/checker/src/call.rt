@@ -1,5 +1,5 @@
 /// One thing to do with a passed rule and its memory.
-#[derive(Clone, Copy)]
+#[derive(Clone, Copy, PartialEq, Eq, Debug)]
 pub enum Call<'a> {
     Fill {
         buffer: usize,

@@ -1,27 +1,22 @@
-ghost use Rattle.std.specs.Prelude.{◌≡◌, true, false, T};
-ghost use Rattle.machine.specs.Machine.{NeverStuck};
-ghost use Rattle.machine.specs.Valid.{table_ok};
+ghost use Rattle.std.specs.Prelude.{◌≡◌, IfSome, None};
 
+use super::passed::Passed;
 use rule::Record;
 
-/// A table of records, held for reading, that may be checked. It is clean once a check has reported nothing, and a
-/// clean one holds a rule that never gets stuck.
+/// A table of records, held for reading, that may be checked. Once a check has reported nothing it is clean, and has the
+/// rule that it can be turned into.
 #[derive(Drop)]
 pub struct Draft<'a> {
     pub(crate) table: &'a [Record],
-    pub(crate) clean: bool,
-    ghost valid: { (T clean → table_ok table.now ≡ true) },
-    ghost sound: { (T clean → NeverStuck table.now) },
+    pub(crate) clean: Option<Passed<'a>>,
+    ghost same: { ∥ IfSome clean (λ p. p.rule.table.now ≡ table.now) ∥₁ },
 }
 
 impl<'a> Draft<'a> {
     /// A draft of any table, not clean yet.
     pub fn of(table: &'a [Record]) -> Draft<'a>
-        ensures { (result.table.now ≡ table.now) × (result.clean ≡ false) }
+        ensures { (result.table.now ≡ table.now) × (result.clean ≡ None) }
     {
-        Draft {
-            table,
-            clean: false,
-        }
+        Draft { table, clean: None }
     }
 }

@@ -1,32 +1,35 @@
 ghost use Rattle.std.specs.Prelude.{◌≡◌, true, false, MatchResult};
+ghost use Rattle.std.specs.Option.{is_some};
 ghost use Rattle.checker.specs.Rules.{built_in};
 
 use super::draft::Draft;
 use super::passed::Passed;
 use super::refusal::PassRefusal;
-use rule::{Item, Operand, Record};
+use machine::Rule;
+use rule::{Instruction, Item, Operand, Record};
 
 /// No buffers; the rule returns 0.
 static BUILT_IN: [Record; 2] = [
     Record {
         line: 0,
-        item: Item::Mov {
+        item: Item::Instruction(Instruction::Mov {
             target: 0,
             source: Operand::Constant(0),
-        },
+        }),
     },
     Record {
         line: 0,
-        item: Item::Ret,
+        item: Item::Instruction(Instruction::Ret),
     },
 ];
 
 impl<'a> Passed<'a> {
     /// The rule that stands in a place before another is passed into it: no buffers, `mov r0 0` and `ret`.
     pub fn built_in() -> Passed<'a>
-        ensures { result.table.now ≡ built_in }
+        ensures { result.rule.table.now ≡ built_in }
     {
-        Passed { table: &BUILT_IN }
+        let rule = Rule::of(&BUILT_IN).unwrap();
+        Passed { rule }
     }
 }
 
@@ -35,14 +38,10 @@ impl<'a> Draft<'a> {
     /// and the place keeps its rule.
     pub fn pass(self, place: &mut Passed<'a>) -> Result<(), PassRefusal>
         ensures { MatchResult result
-            (λ _. (self.entry.clean ≡ true) × (place.new.table.now ≡ self.entry.table.now))
-            (λ _. (self.entry.clean ≡ false) × (place.new.table.now ≡ place.old.table.now)) }
+            (λ _. (is_some self.entry.clean ≡ true) × (place.new.rule.table.now ≡ self.entry.table.now))
+            (λ _. (is_some self.entry.clean ≡ false) × (place.new.rule.table.now ≡ place.old.rule.table.now)) }
     {
-        if self.clean {
-            *place = Passed { table: self.table };
-            Ok(())
-        } else {
-            Err(PassRefusal::Unclean)
-        }
+        *place = self.clean.ok_or(PassRefusal::Unclean)?;
+        Ok(())
     }
 }

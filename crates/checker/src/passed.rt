@@ -1,13 +1,10 @@
-ghost use Rattle.std.specs.Prelude.{◌≡◌, true};
 ghost use Rattle.machine.specs.Machine.{NeverStuck};
-ghost use Rattle.machine.specs.Valid.{table_ok};
 
-use rule::Record;
+use machine::Rule;
 
 /// A rule that may run: it never gets stuck. Only a passed rule can be run, and only a passed rule's memory filled.
 #[derive(Drop)]
 pub struct Passed<'a> {
-    pub(crate) table: &'a [Record],
-    ghost valid: { table_ok table.now ≡ true },
-    ghost safe: { NeverStuck table.now },
+    pub(crate) rule: Rule<'a>,
+    ghost safe: { NeverStuck rule.table.now },
 }

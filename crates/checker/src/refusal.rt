@@ -2,7 +2,7 @@ ghost use Rattle.std.specs.Prelude.{◌≡◌};
 ghost use Rattle.checker.specs.Refusals.{check_number, pass_number, fill_number, run_number};
 
 /// Why a check does not begin. The lists that were lent are then as they were.
-#[derive(Clone, Copy)]
+#[derive(Clone, Copy, PartialEq, Eq, Debug)]
 pub enum CheckRefusal {
     /// The table holds no rule: its records are none that a text could give, or out of order.
     NoRule,
@@ -21,7 +21,7 @@ impl CheckRefusal {
 }
 
 /// Why a draft is not passed. The table and the place are then as they were.
-#[derive(Clone, Copy)]
+#[derive(Clone, Copy, PartialEq, Eq, Debug)]
 pub enum PassRefusal {
     /// No check has accepted the draft.
     Unclean,
@@ -38,7 +38,7 @@ impl PassRefusal {
 }
 
 /// Why a fill is refused. The memory is then as it was.
-#[derive(Clone, Copy)]
+#[derive(Clone, Copy, PartialEq, Eq, Debug)]
 pub enum FillRefusal {
     /// The memory has not the size of all the rule's buffers.
     WrongMemory,
@@ -58,7 +58,7 @@ impl FillRefusal {
 }
 
 /// Why a run is refused. The memory is then as it was.
-#[derive(Clone, Copy)]
+#[derive(Clone, Copy, PartialEq, Eq, Debug)]
 pub enum RunRefusal {
     /// The memory has not the size of all the rule's buffers.
     WrongMemory,

@@ -1,0 +1,4 @@
+use Rattle.checker.proofs.draft.Draft.pass.Goals as goal
+
+pub returns : goal.returns
+returns c = ?
