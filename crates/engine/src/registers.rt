@@ -43,7 +43,7 @@ impl Registers {
     pub(crate) fn set(&mut self, k: u8, word: u64)
         ensures { self.new.words ≡ slice_set self.old.words k (Some word) }
     {
-        // By its index: of a write through `get_mut` a proof would know no element.
+        // By its index. `get_mut` was tried: of a write through what it lends a proof knows no element.
         let k = usize::from(k);
         if k < self.words.len() {
             self.words[k] = Some(word);
