@@ -1,4 +1,5 @@
-ghost use Rattle.std.specs.Prelude.{◌≡◌, IfSome, None};
+ghost use Rattle.std.specs.Prelude.{◌≡◌, None, Some};
+ghost use Rattle.checker.specs.declared.passed.Passed.{Passed};
 
 use super::passed::Passed;
 use rule::Record;
@@ -9,7 +10,7 @@ use rule::Record;
 pub struct Draft<'a> {
     pub(crate) table: &'a [Record],
     pub(crate) clean: Option<Passed<'a>>,
-    ghost same: { ∥ IfSome clean (λ p. p.rule.table.now ≡ table.now) ∥₁ },
+    ghost same: { (p : Passed) → clean ≡ Some p → p.rule.table.now ≡ table.now },
 }
 
 impl<'a> Draft<'a> {
