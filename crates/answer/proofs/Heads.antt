@@ -1,11 +1,14 @@
 -- The buffers that are read: few, of a fit size, and each name stands for one of them.
-use Rattle.std.proofs.Common.{◌≡◌, ℕ, suc, ◌+◌, ◌<◌, ◌≤◌, true, leb, List, [], ◌∷◌, ◌++◌, length, IfOk, Some, Ok, Err, Result, refl, ap, ◌∙◌, arith}
+use Rattle.std.proofs.Common.{◌≡◌, ℕ, ◌+◌, ◌<◌, ◌≤◌, true, false, ◌&&◌, leb, List, [], ◌∷◌, ◌++◌, length, IfOk, Some, Ok, Err, Result, refl, ap, ◌∙◌, arith}
 use Rattle.std.proofs.lemmas.List.{length_push}
-use Rattle.std.proofs.lemmas.Bool.{and_from, cond_both, cond-true, leb-false}
+use Rattle.std.specs.List.{list_all}
+use Rattle.std.proofs.lemmas.List.Sums.{take_while-cons}
+use Rattle.std.proofs.lemmas.Bool.{and_from, cond_both, cond-true, cond-false, leb-false}
 use Rattle.std.specs.Str.{bytes_eq}
 use Rattle.lexer.specs.declared.place.Place.{Place}
 use Rattle.lexer.specs.Lines.{Piece}
-use Rattle.machine.specs.Tables.{is_buffer, buffer_count}
+use Rattle.rule.specs.Records.{is_buffer}
+use Rattle.machine.specs.Tables.{buffer_count}
 use Rattle.machine.specs.Valid.{size_ok, heads_ok}
 use Rattle.rule.specs.declared.record.Item.TheVariants.{Buffer as IsBuffer}
 use Rattle.rule.specs.declared.record.Mode.{Mode}
@@ -78,9 +81,18 @@ number-held n (e ∷ es) name h =
 -- buffers in front of a table are all its buffers, where none follows
 pub buffers-front : (bs q : List Record) → Each FineHead bs → buffer_count q ≡ 0 → buffer_count (bs ++ q) ≡ length bs
 buffers-front [] q h e = e
-buffers-front (b ∷ bs) q h e = cond-true (is_buffer b.item) _ _ h.0.0 ∙ ap suc (buffers-front bs q h.1 e)
+buffers-front (b ∷ bs) q h e =
+    let more = buffers-front bs q h.1 e in
+    cond-true (is_buffer b.item) _ _ h.0.0 ∙ omega arith
+
+-- a table that begins with a record that is no buffer has none in front, and one more buffer is one more to be tested
+pub heads_none : (c : Record) (q : List Record) → is_buffer c.item ≡ false → heads_ok (c ∷ q) ≡ true
+heads_none c q e = ap (list_all (λ (r : Record). size_ok r.item)) (take_while-cons (λ (r : Record). is_buffer r.item) c q ∙ cond-false (is_buffer c.item) _ _ e)
+
+heads_more : (b : Record) (q : List Record) → is_buffer b.item ≡ true → heads_ok (b ∷ q) ≡ (size_ok b.item && heads_ok q)
+heads_more b q e = ap (list_all (λ (r : Record). size_ok r.item)) (take_while-cons (λ (r : Record). is_buffer r.item) b q ∙ cond-true (is_buffer b.item) _ _ e)
 
 pub heads-front : (bs q : List Record) → Each FineHead bs → heads_ok q ≡ true → heads_ok (bs ++ q) ≡ true
 heads-front [] q h e = e
 heads-front (b ∷ bs) q h e =
-    cond-true (is_buffer b.item) _ _ h.0.0 ∙ and_from (size_ok b.item) (heads_ok (bs ++ q)) h.0.1 (heads-front bs q h.1 e)
+    heads_more b (bs ++ q) h.0.0 ∙ and_from (size_ok b.item) (heads_ok (bs ++ q)) h.0.1 (heads-front bs q h.1 e)

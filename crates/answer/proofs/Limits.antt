@@ -8,16 +8,16 @@ use Rattle.lexer.specs.Lines.{Piece}
 use Rattle.lexer.specs.Numbers as number
 use Rattle.lexer.specs.Numbers.{word_of}
 use Rattle.machine.specs.Valid.{operand_ok}
-use Rattle.rule.specs.declared.record.Condition.{Condition}
-use Rattle.rule.specs.declared.record.Operand.{Operand}
+use Rattle.rule.specs.declared.instruction.Condition.{Condition}
+use Rattle.rule.specs.declared.instruction.Operand.{Operand}
 use Rattle.syntax.specs.declared.fault.LineFault.{LineFault}
 use Rattle.syntax.specs.declared.fault.LineFault.TheVariants.{Form}
 use Rattle.syntax.specs.declared.mnemonic.Mnemonic.{Mnemonic}
 use Rattle.syntax.specs.declared.mnemonic.Mnemonic.TheVariants as word
 use Rattle.syntax.specs.declared.statement.Header.{Header}
 use Rattle.syntax.specs.declared.statement.Header.TheVariants.{Code, Buffer}
-use Rattle.syntax.specs.declared.statement.Instruction.{Instruction}
-use Rattle.syntax.specs.declared.statement.Instruction.TheVariants.{Mov, Alu, Load, Store, Jump, Branch, Ret}
+use Rattle.rule.specs.declared.instruction.Instruction.{Instruction}
+use Rattle.rule.specs.declared.instruction.Instruction.TheVariants.{Mov, Alu, Load, Store, Jump, Branch, Ret}
 use Rattle.syntax.specs.declared.statement.Statement.{Statement}
 use Rattle.syntax.specs.declared.statement.Statement.TheVariants.{Label, Instruction as Instructs}
 use Rattle.syntax.specs.Operands.{register_of, either_of, operand_in, operand_of, size_of, mode_of}

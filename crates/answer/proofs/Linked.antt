@@ -4,22 +4,21 @@ use Rattle.std.proofs.lemmas.List.{length_push, get_or_push, get_or_append_left}
 use Rattle.std.proofs.lemmas.Bool.{and_parts, and_from, both_ways, cases_Bool, cond_both, cond-true, cond-false, leb-false, lt-ltb}
 use Rattle.lexer.specs.declared.place.Place.{Place}
 use Rattle.lexer.specs.Lines.{Piece}
-use Rattle.machine.specs.Tables.{buffer_count, writable_in, writable_at}
+use Rattle.rule.specs.Records.{writable_in}
+use Rattle.machine.specs.Tables.{buffer_count, writable_at}
 use Rattle.machine.specs.Valid.{operand_ok, jump_ok, item_ok, is_ret}
-use Rattle.rule.specs.declared.record.Item.{Item}
 use Rattle.rule.specs.declared.record.Item.TheVariants as item
-use Rattle.rule.specs.declared.record.Mode.TheVariants as mode
+use Rattle.rule.specs.Instructions as instructions
 use Rattle.rule.specs.declared.record.Record.{Record}
 use Rattle.rule.specs.Records.{blank}
 use Rattle.syntax.specs.declared.fault.LineFault.{LineFault}
-use Rattle.syntax.specs.declared.statement.Instruction.{Instruction}
-use Rattle.syntax.specs.declared.statement.Instruction.TheVariants.{Mov, Alu, Load, Store, Jump, Branch, Ret}
+use Rattle.rule.specs.declared.instruction.Instruction.{Instruction}
+use Rattle.rule.specs.declared.instruction.Instruction.TheVariants.{Mov, Alu, Load, Store, Jump, Branch, Ret}
 use Rattle.syntax.specs.declared.statement.Statement.{Statement}
 use Rattle.syntax.specs.declared.statement.Statement.TheVariants.{Label, Instruction as Instructs}
 use Rattle.grammar.specs.declared.fault.ProgramFault.{ProgramFault}
-use Rattle.grammar.specs.Links.{Scope, Found, is_writable, loadable, storable, reachable, source, sink, target, with, item_of}
+use Rattle.grammar.specs.Links.{Scope, Found, loadable, storable, reachable, source, sink, target, with, resolved}
 use Rattle.grammar.specs.Names.{Entry, number_of, is_known}
-use Rattle.grammar.specs.Reading as reading
 use Rattle.grammar.specs.Reading.{Fields, Survey, first_place, record_at, entry, said, and_then, surveyed, survey_from, linked, link_from}
 use Rattle.answer.proofs.Each.{Each, Held}
 use Rattle.answer.proofs.Heads.{Below, number-held}
@@ -27,28 +26,16 @@ use Rattle.answer.proofs.Limits.{Bounded, FineStatement, said_made}
 
 -- ── one instruction ──
 
-writable_same : (i : Item) → is_writable i ≡ writable_in i
-writable_same (item.Buffer size mode.ReadWrite) = refl
-writable_same (item.Buffer size mode.ReadOnly) = refl
-writable_same item.Blank = refl
-writable_same (item.Mov t s) = refl
-writable_same (item.Alu op t s) = refl
-writable_same (item.Load w t b s) = refl
-writable_same (item.Store w b s t) = refl
-writable_same (item.Jump to) = refl
-writable_same (item.Branch c l s to) = refl
-writable_same item.Ret = refl
-
 -- the names of the buffers stand for buffers
 pub record Known (s : Scope) : Type 0 where
   pub names : Each (Below (length s.heads)) s.buffers
   pub heads : buffer_count s.heads ≡ length s.heads
 
 -- a fit instruction, and a `ret` where the text has one
-abbrev Links : Scope → ℕ → Instruction Piece → Item → Type 0
-Links s k i x = (item_ok s.heads s.count k x ≡ true) × (reading.is_ret i ≡ true → is_ret x ≡ true)
+abbrev Links : Scope → ℕ → Instruction Piece → Instruction ℕ → Type 0
+Links s k i x = (item_ok s.heads s.count k (item.Instruction x) ≡ true) × (instructions.is_ret i ≡ true → instructions.is_ret x ≡ true)
 
-with_made : (P : ℕ → Type 0) (Q : Item → Type 0) (r : Found) (f : ℕ → Item) → IfOk r P → ((n : ℕ) → P n → Q (f n)) → IfOk (with r f) Q
+with_made : (P : ℕ → Type 0) (Q : Instruction ℕ → Type 0) (r : Found) (f : ℕ → Instruction ℕ) → IfOk r P → ((n : ℕ) → P n → Q (f n)) → IfOk (with r f) Q
 with_made P Q (Ok n) f h g = g n h
 with_made P Q (Err e) f h g = tt
 
@@ -69,8 +56,8 @@ module _ (s : Scope) (known : Known s) where
   storable_made : (o : Option ℕ) (p : Place) → Held (λ b. b < length s.heads) o → IfOk (storable s.heads o p) IsSink
   storable_made None p h = tt
   storable_made (Some b) p h =
-      cond_both (is_writable (get_or s.heads b blank).item) _ _ (λ r. IfOk r IsSink)
-      (λ w. and_from _ _ (is-buffer b h) (sym (writable_same (get_or s.heads b blank).item) ∙ w))
+      cond_both (writable_in (get_or s.heads b blank).item) _ _ (λ r. IfOk r IsSink)
+      (λ w. and_from _ _ (is-buffer b h) w)
       (λ _. tt)
 
   reachable_made : (k : ℕ) (o : Option ℕ) (p : Place) → IfOk (reachable k s.count o p) (λ to. jump_ok s.count k to ≡ true)
@@ -80,7 +67,7 @@ module _ (s : Scope) (known : Known s) where
   found : (n : Piece) → Held (λ b. b < length s.heads) (number_of s.buffers n.bytes)
   found n = number-held (length s.heads) s.buffers n.bytes known.names
 
-  item_made : (k : ℕ) (i : Instruction Piece) → Bounded i → IfOk (item_of s k i) (Links s k i)
+  item_made : (k : ℕ) (i : Instruction Piece) → Bounded i → IfOk (resolved s k i) (Links s k i)
   item_made k (Mov t o) h = (h, λ e. e)
   item_made k (Alu op t o) h = (h, λ e. e)
   item_made k (Load w t n o) h =
@@ -122,9 +109,9 @@ module _ (s : Scope) (known : Known s) (room : ℕ) where
   State k closed rs = Coded s.heads s.count room k closed rs
 
   -- one more instruction
-  more : (k : ℕ) (closed : Bool) (rs : List Record) (p : Place) (i : Instruction Piece) (x : Item) → State k closed rs → k < room → Links s (length rs) i x → State (k + 1) (reading.is_ret i) (rs ++ record_at p x ∷ [])
+  more : (k : ℕ) (closed : Bool) (rs : List Record) (p : Place) (i : Instruction Piece) (x : Instruction ℕ) → State k closed rs → k < room → Links s (length rs) i x → State (k + 1) (instructions.is_ret i) (rs ++ record_at p (item.Instruction x) ∷ [])
   more k closed rs p i x c h l =
-      let r = record_at p x in
+      let r = record_at p (item.Instruction x) in
       let grown = rs ++ r ∷ [] in
       let long : length grown ≡ length rs + 1 = length_push rs r in
       let last : get_or grown (length rs) blank ≡ r = get_or_push rs r blank (length rs) refl in
@@ -143,10 +130,10 @@ module _ (s : Scope) (known : Known s) (room : ℕ) where
     abbrev Goes : List Fields → Type 0
     Goes lines = (ls : List Entry) (k : ℕ) (closed : Bool) (rs : List Record) → State k closed rs → survey_from room ls k closed lines ≡ Ok sv → link_from s rs lines ≡ Ok out → State sv.count sv.closed out
 
-    instructed : (rest : List Fields) → Goes rest → (ls : List Entry) (k : ℕ) (closed : Bool) (rs : List Record) (p : Place) (i : Instruction Piece) (r : Result Item ProgramFault)
-        → State k closed rs → k < room → IfOk r (Links s (length rs) i) → survey_from room ls (k + 1) (reading.is_ret i) rest ≡ Ok sv
-        → and_then r (λ x. link_from s (rs ++ record_at p x ∷ []) rest) ≡ Ok out → State sv.count sv.closed out
-    instructed rest again ls k closed rs p i (Ok x) c h l a b = again ls (k + 1) (reading.is_ret i) (rs ++ record_at p x ∷ []) (more k closed rs p i x c h l) a b
+    instructed : (rest : List Fields) → Goes rest → (ls : List Entry) (k : ℕ) (closed : Bool) (rs : List Record) (p : Place) (i : Instruction Piece) (r : Result (Instruction ℕ) ProgramFault)
+        → State k closed rs → k < room → IfOk r (Links s (length rs) i) → survey_from room ls (k + 1) (instructions.is_ret i) rest ≡ Ok sv
+        → and_then r (λ x. link_from s (rs ++ record_at p (item.Instruction x) ∷ []) rest) ≡ Ok out → State sv.count sv.closed out
+    instructed rest again ls k closed rs p i (Ok x) c h l a b = again ls (k + 1) (instructions.is_ret i) (rs ++ record_at p (item.Instruction x) ∷ []) (more k closed rs p i x c h l) a b
     instructed rest again ls k closed rs p i (Err e) c h l a b = absurd (not_ok e out b)
 
     stated : (rest : List Fields) → Goes rest → (ls : List Entry) (k : ℕ) (closed : Bool) (rs : List Record) (p : Place) (r : Result (Statement Piece) LineFault)
@@ -161,7 +148,7 @@ module _ (s : Scope) (known : Known s) (room : ℕ) where
     stated rest again ls k closed rs p (Ok (Instructs i)) c fine a b =
         elim (cases_Bool (leb room k)) [
           | inl t ↦ absurd (not_ok _ sv (sym (cond-true (leb room k) _ _ t) ∙ a))
-          | inr f ↦ instructed rest again ls k closed rs p i (item_of s (length rs) i) c (leb-false room k f) (item_made s known (length rs) i fine) (sym (cond-false (leb room k) _ _ f) ∙ a) b
+          | inr f ↦ instructed rest again ls k closed rs p i (resolved s (length rs) i) c (leb-false room k f) (item_made s known (length rs) i fine) (sym (cond-false (leb room k) _ _ f) ∙ a) b
         ]
 
     goes : (lines : List Fields) → Goes lines

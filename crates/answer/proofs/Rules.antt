@@ -1,41 +1,42 @@
 -- What is read is a rule.
-use Rattle.std.proofs.Common.{◌≡◌, ℕ, zero, suc, ◌-◌, ◌<◌, ◌≤◌, min, true, false, ◌&&◌, ltb, leb, List, [], ◌∷◌, ◌++◌, length, get_or, drop, replicate, IfOk, Some, None, Ok, Err, Option, Result, sym, refl, ap, ◌∙◌, subst, append_assoc, append-nil, arith}
+use Rattle.std.proofs.Common.{◌≡◌, ℕ, zero, suc, ◌-◌, ◌<◌, ◌≤◌, min, true, false, not, ◌&&◌, ltb, leb, List, [], ◌∷◌, ◌++◌, length, get_or, drop, replicate, IfOk, Some, None, Ok, Err, Option, Result, sym, refl, ap, ◌∙◌, subst, append_assoc, append-nil, arith}
 use Rattle.std.proofs.lemmas.List.{drop_at, get_or_append_left}
-use Rattle.std.proofs.lemmas.Bool.{and_parts, and_from, both_ways, cond_both, cond-false, le-leb, ltb-true}
+use Rattle.std.proofs.lemmas.Bool.{and_parts, and_from, both_ways, cond_both, cond-true, cond-false, le-leb, ltb-true}
 use Rattle.lexer.specs.declared.place.Place.{Place}
 use Rattle.lexer.specs.Foreign.{foreign}
 use Rattle.lexer.specs.Lines.{filled_lines}
-use Rattle.machine.specs.Tables.{is_buffer, is_blank, buffer_count, filled_count, behind, code_length, writable_in, writable_at}
+use Rattle.machine.specs.Tables.{buffer_count, filled_count, behind, code_length, writable_at}
 use Rattle.machine.specs.Valid.{operand_ok, item_ok, code_ok, is_ret, heads_ok, blanks_ok, counts_ok, rest_ok, table_ok}
 use Rattle.rule.specs.declared.record.Item.{Item}
-use Rattle.rule.specs.declared.record.Item.TheVariants.{Blank, Buffer, Mov, Alu, Load, Store, Jump, Branch, Ret}
+use Rattle.rule.specs.declared.record.Item.TheVariants.{Blank, Buffer, Instruction}
+use Rattle.rule.specs.declared.instruction.Instruction.TheVariants.{Mov, Alu, Load, Store, Jump, Branch, Ret}
 use Rattle.rule.specs.declared.record.Record.{Record}
-use Rattle.rule.specs.Records.{blank}
+use Rattle.rule.specs.Records.{blank, is_buffer, is_blank, writable_in}
 use Rattle.syntax.specs.Statements.{is_heading}
 use Rattle.grammar.specs.declared.fault.ProgramFault.{ProgramFault}
 use Rattle.grammar.specs.Names.{Entry}
 use Rattle.grammar.specs.Reading.{Fields, Heads, Program, and_then, buffers_from, survey_from, link_from, scope_of, code_of, coded, body_of, program_of, clean, reading, table_of}
 use Rattle.answer.proofs.Each.{Each}
-use Rattle.answer.proofs.Heads.{FineHead, Buffered, buffers_made, buffers-front, heads-front}
+use Rattle.answer.proofs.Heads.{FineHead, Buffered, buffers_made, buffers-front, heads_none, heads-front}
 use Rattle.answer.proofs.Linked.{Ends, code_made}
 
 -- ── a table of fit buffers, fit instructions and blanks ──
 
 -- a fit instruction is neither a buffer nor blank
 plain : (p : List Record) (n k : ℕ) (i : Item) → item_ok p n k i ≡ true → (is_buffer i ≡ false) × (is_blank i ≡ false)
-plain p n k (Mov t s) e = (refl, refl)
-plain p n k (Alu op t s) e = (refl, refl)
-plain p n k (Load w t b s) e = (refl, refl)
-plain p n k (Store w b s t) e = (refl, refl)
-plain p n k (Jump to) e = (refl, refl)
-plain p n k (Branch c l s to) e = (refl, refl)
-plain p n k Ret e = (refl, refl)
+plain p n k (Instruction (Mov t s)) e = (refl, refl)
+plain p n k (Instruction (Alu op t s)) e = (refl, refl)
+plain p n k (Instruction (Load w t b s)) e = (refl, refl)
+plain p n k (Instruction (Store w b s t)) e = (refl, refl)
+plain p n k (Instruction (Jump to)) e = (refl, refl)
+plain p n k (Instruction (Branch c l s to)) e = (refl, refl)
+plain p n k (Instruction Ret) e = (refl, refl)
 plain p n k (Buffer size mode) e = absurd (both_ways false refl e)
 plain p n k Blank e = absurd (both_ways false refl e)
 
 no_buffer : (cs q : List Record) → 0 < length cs → is_buffer (get_or cs 0 blank).item ≡ false → (buffer_count (cs ++ q) ≡ 0) × (heads_ok (cs ++ q) ≡ true)
 no_buffer [] q h e = absurd (omega arith)
-no_buffer (c ∷ cs) q h e = (cond-false (is_buffer c.item) _ _ e, cond-false (is_buffer c.item) _ _ e)
+no_buffer (c ∷ cs) q h e = (cond-false (is_buffer c.item) _ _ e, heads_none c (cs ++ q) e)
 
 filled-blank : (m : ℕ) → filled_count (replicate m blank) ≡ 0
 filled-blank zero = refl
@@ -43,7 +44,9 @@ filled-blank (suc m) = refl
 
 filled-front : (cs : List Record) (m : ℕ) → ((j : ℕ) → j < length cs → is_blank (get_or cs j blank).item ≡ false) → filled_count (cs ++ replicate m blank) ≡ length cs
 filled-front [] m h = filled-blank m
-filled-front (c ∷ cs) m h = cond-false (is_blank c.item) _ _ (h 0 (omega arith)) ∙ ap suc (filled-front cs m (λ j l. h (suc j) (omega arith)))
+filled-front (c ∷ cs) m h =
+    let more = filled-front cs m (λ j l. h (suc j) (omega arith)) in
+    cond-true (not (is_blank c.item)) _ _ (ap not (h 0 (omega arith))) ∙ omega arith
 
 blanks_fine : (m : ℕ) → blanks_ok (replicate m blank) ≡ true
 blanks_fine zero = refl
@@ -56,16 +59,16 @@ code-fine p cs n (suc k) h = and_from (item_ok p n k (get_or cs k blank).item) (
 
 -- an instruction asks of a table only which buffers it has
 item_same : (p q : List Record) (n k : ℕ) (i : Item) → buffer_count p ≡ buffer_count q → ((b : ℕ) → b < buffer_count q → writable_at p b ≡ writable_at q b) → item_ok q n k i ≡ true → item_ok p n k i ≡ true
-item_same p q n k (Mov t s) e w h = h
-item_same p q n k (Alu op t s) e w h = h
-item_same p q n k (Load w t b s) e same h = ap (λ c. ltb t 8 && (ltb b c && operand_ok s)) e ∙ h
-item_same p q n k (Store w b s t) e same h =
+item_same p q n k (Instruction (Mov t s)) e w h = h
+item_same p q n k (Instruction (Alu op t s)) e w h = h
+item_same p q n k (Instruction (Load w t b s)) e same h = ap (λ c. ltb t 8 && (ltb b c && operand_ok s)) e ∙ h
+item_same p q n k (Instruction (Store w b s t)) e same h =
     let sink = (and_parts (ltb b (buffer_count q) && writable_at q b) (operand_ok s && ltb t 8) h).0 in
     let within = ltb-true b (buffer_count q) (and_parts (ltb b (buffer_count q)) (writable_at q b) sink).0 in
     ap (λ c. (ltb b c && writable_at p b) && (operand_ok s && ltb t 8)) e ∙ (ap (λ x. (ltb b (buffer_count q) && x) && (operand_ok s && ltb t 8)) (same b within) ∙ h)
-item_same p q n k (Jump to) e w h = h
-item_same p q n k (Branch c l s to) e w h = h
-item_same p q n k Ret e w h = h
+item_same p q n k (Instruction (Jump to)) e w h = h
+item_same p q n k (Instruction (Branch c l s to)) e w h = h
+item_same p q n k (Instruction Ret) e w h = h
 item_same p q n k (Buffer size mode) e w h = h
 item_same p q n k Blank e w h = h
 

@@ -10,17 +10,17 @@ ghost use Rattle.answer.specs.Answers.{ReadIsRule, SafeRule, SafeText, answer_te
 
 use checker::Draft;
 use domain::Domain;
-use grammar::{ProgramFault, Shape};
+use grammar::ProgramFault;
 use product::Standard;
 use reader::read;
 use report::{PrintRefusal, print_fault, print_reports};
-use rule::Record;
+use rule::{MOST_INSTRUCTIONS, MOST_RECORDS, Record, Shape};
 use step::{Mark, Report};
 use walk::Tally;
 
 /// Room for every answer: a heading of 31 bytes, and for each of 96 instructions a line of five numbers, each of at most
 /// twenty digits with a byte behind them.
-pub const LONGEST: usize = 31 + 96 * 105;
+pub const LONGEST: usize = 31 + MOST_INSTRUCTIONS * 105;
 
 /// Reads a text into a table of 104 records. What is read is a rule.
 fn read_rule(text: &[u8], table: &mut [Record]) -> Result<Shape, ProgramFault>
@@ -42,9 +42,9 @@ fn print_check(table: &[Record], output: &mut [u8]) -> Result<usize, PrintRefusa
     ensures after { output.new ≡ output_after (check_text table.now) output.old }
     ensures safe { SafeRule table.now }
 {
-    let mut rows = [Standard::any(); 768];
-    let mut marks = [Mark::UNREACHED; 96];
-    let mut reports = [Report::BLANK; 96];
+    let mut rows = [Standard::any(); 8 * MOST_INSTRUCTIONS];
+    let mut marks = [Mark::UNREACHED; MOST_INSTRUCTIONS];
+    let mut reports = [Report::BLANK; MOST_INSTRUCTIONS];
     match Draft::of(table).check(&mut rows, &mut marks, &mut reports) {
         Ok(Tally { count, .. }) => print_reports(&reports[0..count], output),
         // the table is a rule, and the lists have room for every rule
@@ -60,7 +60,7 @@ pub fn answer(text: &[u8], output: &mut [u8]) -> Result<usize, PrintRefusal>
     ensures safe { SafeText text.now }
     ensures rule { ReadIsRule text.now }
 {
-    let mut table = [Record::BLANK; 104];
+    let mut table = [Record::BLANK; MOST_RECORDS];
     match read_rule(text, &mut table) {
         Ok(_) => print_check(&table, output),
         Err(fault) => print_fault(fault, output),

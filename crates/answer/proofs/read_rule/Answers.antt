@@ -1,6 +1,6 @@
 use Rattle.std.proofs.Common.{◌≡◌, ℕ, true, List, get_or, IfOk, Ok, Err, Result, sym, refl, ap, ◌∙◌, subst, arith, MatchResult}
 use Rattle.grammar.specs.declared.fault.ProgramFault.{ProgramFault}
-use Rattle.grammar.specs.declared.shape.Shape.{Shape}
+use Rattle.rule.specs.declared.shape.Shape.{Shape}
 use Rattle.grammar.specs.Reading.{Program, reading, shape_of, table_of}
 use Rattle.machine.specs.Machine.{NeverStuck}
 use Rattle.machine.specs.Valid.{table_ok}
