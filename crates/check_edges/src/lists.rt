@@ -1,21 +1,21 @@
 use super::expect::{OLD_MARK, OLD_REPORT, OLD_WORD, answer, refused};
 use domain::Domain;
 use product::Standard;
-use rule::{Item, Operand, Record};
+use rule::{Instruction, Item, Operand, Record};
 use std::test::Fail;
 
 /// Two instructions, so sixteen values, two marks and two reports.
 static RULE: [Record; 2] = [
     Record {
         line: 3,
-        item: Item::Mov {
+        item: Item::Instruction(Instruction::Mov {
             target: 0,
             source: Operand::Constant(0),
-        },
+        }),
     },
     Record {
         line: 4,
-        item: Item::Ret,
+        item: Item::Instruction(Instruction::Ret),
     },
 ];
 

@@ -1,38 +1,38 @@
 use super::expect::{OLD_MARK, OLD_REPORT, OLD_WORD, refused};
 use domain::Domain;
 use product::Standard;
-use rule::{Item, Mode, Operand, Record};
+use rule::{Instruction, Item, Mode, Operand, Record};
 use std::process::Abort;
 use std::test::Fail;
 use words::Width;
 
 /// `mov r0 0`
-const MOV: Item = Item::Mov {
+const MOV: Item = Item::Instruction(Instruction::Mov {
     target: 0,
     source: Operand::Constant(0),
-};
+});
 
 /// What no text gives, each in four records.
 static TABLES: [[Item; 4]; 15] = [
     // a blank record in front
-    [Item::Blank, Item::Ret, Item::Blank, Item::Blank],
+    [Item::Blank, Item::Instruction(Instruction::Ret), Item::Blank, Item::Blank],
     // a register 8, to write
     [
-        Item::Mov {
+        Item::Instruction(Instruction::Mov {
             target: 8,
             source: Operand::Constant(0),
-        },
-        Item::Ret,
+        }),
+        Item::Instruction(Instruction::Ret),
         Item::Blank,
         Item::Blank,
     ],
     // a register 8, to read
     [
-        Item::Mov {
+        Item::Instruction(Instruction::Mov {
             target: 0,
             source: Operand::Register(8),
-        },
-        Item::Ret,
+        }),
+        Item::Instruction(Instruction::Ret),
         Item::Blank,
         Item::Blank,
     ],
@@ -43,7 +43,7 @@ static TABLES: [[Item; 4]; 15] = [
             mode: Mode::ReadOnly,
         },
         MOV,
-        Item::Ret,
+        Item::Instruction(Instruction::Ret),
         Item::Blank,
     ],
     // a buffer of 1,025 bytes
@@ -53,28 +53,28 @@ static TABLES: [[Item; 4]; 15] = [
             mode: Mode::ReadOnly,
         },
         MOV,
-        Item::Ret,
+        Item::Instruction(Instruction::Ret),
         Item::Blank,
     ],
     // a jump to itself
-    [MOV, Item::Jump { to: 1 }, Item::Ret, Item::Blank],
+    [MOV, Item::Instruction(Instruction::Jump { to: 1 }), Item::Instruction(Instruction::Ret), Item::Blank],
     // a jump back
-    [MOV, Item::Jump { to: 0 }, Item::Ret, Item::Blank],
+    [MOV, Item::Instruction(Instruction::Jump { to: 0 }), Item::Instruction(Instruction::Ret), Item::Blank],
     // a jump past the end
-    [MOV, Item::Jump { to: 3 }, Item::Ret, Item::Blank],
+    [MOV, Item::Instruction(Instruction::Jump { to: 3 }), Item::Instruction(Instruction::Ret), Item::Blank],
     // a load from a buffer that is not there
     [
         Item::Buffer {
             size: 8,
             mode: Mode::ReadOnly,
         },
-        Item::Load {
+        Item::Instruction(Instruction::Load {
             width: Width::W8,
             target: 0,
             buffer: 1,
             index: Operand::Constant(0),
-        },
-        Item::Ret,
+        }),
+        Item::Instruction(Instruction::Ret),
         Item::Blank,
     ],
     // a store into a read-only buffer
@@ -84,13 +84,13 @@ static TABLES: [[Item; 4]; 15] = [
             mode: Mode::ReadOnly,
         },
         MOV,
-        Item::Store {
+        Item::Instruction(Instruction::Store {
             width: Width::W8,
             buffer: 0,
             index: Operand::Constant(0),
             source: 0,
-        },
-        Item::Ret,
+        }),
+        Item::Instruction(Instruction::Ret),
     ],
     // no instruction
     [
@@ -113,11 +113,11 @@ static TABLES: [[Item; 4]; 15] = [
             size: 8,
             mode: Mode::ReadOnly,
         },
-        Item::Ret,
+        Item::Instruction(Instruction::Ret),
         Item::Blank,
     ],
     // a record after a blank
-    [MOV, Item::Ret, Item::Blank, Item::Ret],
+    [MOV, Item::Instruction(Instruction::Ret), Item::Blank, Item::Instruction(Instruction::Ret)],
 ];
 
 /// The check of the table is refused, with lists that are long enough.
@@ -150,7 +150,7 @@ fn tables_that_no_text_gives(rt: HostRuntime) -> Result<(), Fail> {
 fn ninety_seven_instructions(rt: HostRuntime) -> Result<(), Fail> {
     let ret = Record {
         line: 1,
-        item: Item::Ret,
+        item: Item::Instruction(Instruction::Ret),
     };
     no_rule(&rt, &[ret; 97])
 }

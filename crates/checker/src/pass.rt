@@ -41,7 +41,12 @@ impl<'a> Draft<'a> {
             (λ _. (is_some self.entry.clean ≡ true) × (place.new.rule.table.now ≡ self.entry.table.now))
             (λ _. (is_some self.entry.clean ≡ false) × (place.new.rule.table.now ≡ place.old.rule.table.now)) }
     {
-        *place = self.clean.ok_or(PassRefusal::Unclean)?;
-        Ok(())
+        match self.clean {
+            Some(rule) => {
+                *place = rule;
+                Ok(())
+            }
+            None => Err(PassRefusal::Unclean),
+        }
     }
 }

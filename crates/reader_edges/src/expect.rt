@@ -1,14 +1,14 @@
 //! What a reading must come to. Every table holds other records before, so that nothing of them may be left.
 use grammar::Refusal;
 use reader::read;
-use rule::{Item, Record};
+use rule::{Instruction, Item, Record};
 use std::process::Abort;
 use std::test::Fail;
 
 /// A record that none of the texts has.
 pub(crate) const OLD: Record = Record {
     line: 9999,
-    item: Item::Jump { to: 9999 },
+    item: Item::Instruction(Instruction::Jump { to: 9999 }),
 };
 
 fn is_blank(record: Record) -> bool {

@@ -1,7 +1,7 @@
 use super::build::coded;
 use super::expect::{OLD, accepted, read_into, refused, refused_field};
 use grammar::Refusal;
-use rule::{Item, Operand, Record};
+use rule::{Instruction, Item, Operand, Record};
 use std::alloc::Global;
 use std::process::Abort;
 use std::test::Fail;
@@ -73,10 +73,10 @@ fn a_comment_ends_a_field_in_its_middle(rt: HostRuntime) -> Result<(), Fail> {
             first,
             Record {
                 line: 3,
-                item: Item::Mov {
+                item: Item::Instruction(Instruction::Mov {
                     target: 0,
                     source: Operand::Constant(12),
-                },
+                }),
             }
         )
     );

@@ -1,6 +1,6 @@
 use super::build::{coded, repeated};
 use super::expect::{OLD, accepted, read_into, refused_field};
-use rule::{Item, Operand, Record};
+use rule::{Instruction, Item, Operand, Record};
 use std::alloc::{AllocError, Global};
 use std::process::Abort;
 use std::test::Fail;
@@ -20,10 +20,10 @@ fn check_word(rt: &impl Abort, heap: Global, number: &str, expected: u64) -> Res
     match first {
         Record {
             line: 3,
-            item: Item::Mov {
+            item: Item::Instruction(Instruction::Mov {
                 target: 0,
                 source: Operand::Constant(word),
-            },
+            }),
         } => {
             assert_eq!(rt; word, expected);
             Ok(())

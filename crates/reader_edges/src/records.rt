@@ -1,6 +1,6 @@
 use super::expect::{OLD, read_into, refused};
 use grammar::Refusal;
-use rule::{Condition, Item, Mode, Operand, Record};
+use rule::{Condition, Instruction, Item, Mode, Operand, Record};
 use std::process::Abort;
 use std::test::Fail;
 use words::{Operation, Width};
@@ -68,11 +68,11 @@ fn operations_have_their_operands(rt: HostRuntime) -> Result<(), Fail> {
             and,
             Record {
                 line: 6,
-                item: Item::Alu {
+                item: Item::Instruction(Instruction::Alu {
                     operation: Operation::And,
                     target: 1,
                     operand: Operand::Constant(63),
-                },
+                }),
             }
         )
     );
@@ -82,10 +82,10 @@ fn operations_have_their_operands(rt: HostRuntime) -> Result<(), Fail> {
             mov,
             Record {
                 line: 12,
-                item: Item::Mov {
+                item: Item::Instruction(Instruction::Mov {
                     target: 0,
                     source: Operand::Constant(u64::MAX),
-                },
+                }),
             }
         )
     );
@@ -100,12 +100,12 @@ fn loads_and_stores_have_the_number_of_their_buffer(rt: HostRuntime) -> Result<(
             load,
             Record {
                 line: 7,
-                item: Item::Load {
+                item: Item::Instruction(Instruction::Load {
                     width: Width::W8,
                     target: 0,
                     buffer: 0,
                     index: Operand::Register(1),
-                },
+                }),
             }
         )
     );
@@ -115,12 +115,12 @@ fn loads_and_stores_have_the_number_of_their_buffer(rt: HostRuntime) -> Result<(
             store,
             Record {
                 line: 9,
-                item: Item::Store {
+                item: Item::Instruction(Instruction::Store {
                     width: Width::W16,
                     buffer: 1,
                     index: Operand::Constant(0),
                     source: 0,
-                },
+                }),
             }
         )
     );
@@ -135,12 +135,12 @@ fn jumps_have_the_number_of_their_target(rt: HostRuntime) -> Result<(), Fail> {
             branch,
             Record {
                 line: 8,
-                item: Item::Branch {
+                item: Item::Instruction(Instruction::Branch {
                     condition: Condition::Less,
                     left: 0,
                     right: Operand::Constant(10),
                     to: 5,
-                },
+                }),
             }
         )
     );
@@ -150,7 +150,7 @@ fn jumps_have_the_number_of_their_target(rt: HostRuntime) -> Result<(), Fail> {
             jump,
             Record {
                 line: 10,
-                item: Item::Jump { to: 6 },
+                item: Item::Instruction(Instruction::Jump { to: 6 }),
             }
         )
     );
@@ -160,7 +160,7 @@ fn jumps_have_the_number_of_their_target(rt: HostRuntime) -> Result<(), Fail> {
             ret,
             Record {
                 line: 14,
-                item: Item::Ret,
+                item: Item::Instruction(Instruction::Ret),
             }
         )
     );
