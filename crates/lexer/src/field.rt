@@ -17,7 +17,7 @@ pub struct Field<'a> {
     pub text: &'a [u8],
 }
 
-/// A name found in a text: a part of the text itself, and where it begins.
+/// A name found in a text: a part of the text itself, and where it begins. Not each field is one, so the type is its own.
 #[derive(Clone, Copy, PartialEq, Eq, Debug)]
 pub struct Name<'a> {
     pub place: Place,

@@ -3,7 +3,7 @@ ghost use Rattle.lexer.specs.Lines.{piece_of, pieces_of};
 
 use super::field::Field;
 use super::place::Place;
-use super::scan::{field_end, skip_spaces};
+use super::scan::{field_len, spaces};
 
 /// What is left of a line: its number from 1, the place to go on from, and the text as far as the line's end.
 #[derive(Clone, Copy, PartialEq, Eq, Debug)]
@@ -28,8 +28,9 @@ impl<'a> Line<'a> {
         ensures within { IfSome result (λ f. (self.old.at ≤ f.place.at) × (f.place.at + length f.text.now ≤ length self.old.text.now) × (0 < length f.text.now)) }
     {
         let text = self.text;
-        let from = skip_spaces(text, self.at);
-        let to = field_end(text, from);
+        let rest = text.get(self.at..)?;
+        let from = self.at + spaces(rest);
+        let to = from + field_len(&text[from..]);
         self.at = to;
         if from == to {
             return None;

@@ -1,4 +1,5 @@
-ghost use Rattle.std.specs.Prelude.{◌≡◌, ℕ, ◌<◌, ◌≤◌, true, false, length, Some, None, MatchResult, ◌≢◌, slice_index};
+ghost use Rattle.std.specs.Prelude.{◌≡◌, ◌≤◌, length, not, Some, None, MatchResult, ◌==◌};
+ghost use Rattle.std.specs.List.{prefix_len};
 ghost use Rattle.lexer.specs.declared.place.Place.{Place};
 ghost use Rattle.lexer.specs.declared.fault.FieldFault.TheVariants.{Character};
 ghost use Rattle.lexer.specs.Characters.{field_byte};
@@ -33,36 +34,26 @@ pub fn check_text(text: &[u8]) -> Result<(), FieldFault>
     Ok(())
 }
 
-/// The first place from the given one on that holds no space.
-pub(crate) fn skip_spaces(text: &[u8], from: usize) -> usize
-    ensures forward { from ≤ result }
-    ensures within { from < result → result ≤ length text.now }
-    ensures all { (k : ℕ) → from ≤ k → k < result → slice_index text.now k ≡ 32 }
-    ensures stops { result < length text.now → slice_index text.now result ≢ 32 }
+/// How many spaces the bytes begin with.
+pub(crate) fn spaces(bytes: &[u8]) -> usize
+    ensures value { result ≡ prefix_len (λ b. b == 32) bytes.now }
+    ensures within { result ≤ length bytes.now }
 {
-    let spaces = text.iter().skip(from).take_while(|b| **b == b' ');
-    from + spaces.count()
+    bytes.iter().take_while(|b| **b == b' ').count()
 }
 
-/// The first place from the given one on that holds no byte of a field.
-pub(crate) fn field_end(text: &[u8], from: usize) -> usize
-    ensures forward { from ≤ result }
-    ensures within { from < result → result ≤ length text.now }
-    ensures all { (k : ℕ) → from ≤ k → k < result → field_byte (slice_index text.now k) ≡ true }
-    ensures stops { result < length text.now → field_byte (slice_index text.now result) ≡ false }
+/// How many bytes of a field the bytes begin with.
+pub(crate) fn field_len(bytes: &[u8]) -> usize
+    ensures value { result ≡ prefix_len field_byte bytes.now }
+    ensures within { result ≤ length bytes.now }
 {
-    let run = text.iter().skip(from).take_while(|b| is_field_byte(**b));
-    from + run.count()
+    bytes.iter().take_while(|b| is_field_byte(**b)).count()
 }
 
-/// The place of the first line feed from the given one on, or the text's end.
-pub(crate) fn line_end(text: &[u8], from: usize) -> usize
-    requires { from ≤ length text.now }
-    ensures forward { from ≤ result }
-    ensures within { result ≤ length text.now }
-    ensures all { (k : ℕ) → from ≤ k → k < result → slice_index text.now k ≢ 10 }
-    ensures stops { result < length text.now → slice_index text.now result ≡ 10 }
+/// How many bytes there are before the first line feed, or in all.
+pub(crate) fn line_len(bytes: &[u8]) -> usize
+    ensures value { result ≡ prefix_len (λ b. not (b == 10)) bytes.now }
+    ensures within { result ≤ length bytes.now }
 {
-    let run = text.iter().skip(from).take_while(|b| **b != b'\n');
-    from + run.count()
+    bytes.iter().take_while(|b| **b != b'\n').count()
 }

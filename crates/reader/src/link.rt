@@ -24,6 +24,7 @@ pub(crate) fn link_code(
         (λ n. (n ≤ length slots.old) × (drop n slots.new ≡ drop n slots.old))
         (λ _. Unit {0}) }
 {
+    // A slot is taken for an instruction alone, so to count neither lines nor slots in the loop's head would do.
     let mut count = 0;
     while let Some(line) = lexer.next_filled() {
         if let Statement::Instruction(instruction) = parse_statement(line)? {

@@ -62,6 +62,7 @@ impl<'a, const N: usize> Names<'a, N> {
     {
         let text = self.text;
         let marks = &self.marks[..self.count];
+        // No map without a heap, and no `find`: its closure could not know that each mark lies in the text.
         for mark in marks {
             if &text[usize::from(mark.from)..usize::from(mark.to)] == name {
                 return Some(usize::from(mark.number));

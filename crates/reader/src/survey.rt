@@ -34,6 +34,7 @@ pub(crate) fn survey_code(
     ensures within { IfOk result (λ s. s.instructions ≤ room) }
 {
     let most = room.min(MOST_INSTRUCTIONS);
+    // Labels come between, so the lines' own count is not that of the instructions.
     let mut instructions = 0;
     let mut closed = false;
     while let Some(line) = lexer.next_filled() {

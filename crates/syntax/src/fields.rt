@@ -14,6 +14,9 @@ pub(crate) fn is_alone(line: Filled) -> bool
     rest.next_field().is_none()
 }
 
+// One, two or three fields are three functions. One with a const parameter, `Result<[Field; N], LineFault>`, was tried:
+// the borrow checker covers neither it nor its callers, since a signature's array of fields has no kind there.
+
 /// The fields after the first, if they are just one.
 pub(crate) fn one_more<'a>(line: Filled<'a>) -> Result<Field<'a>, LineFault>
     ensures { MatchResult result

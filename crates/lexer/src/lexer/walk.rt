@@ -2,7 +2,7 @@ ghost use Rattle.std.specs.Prelude.{◌≡◌, ◌+◌, ◌<◌, ◌≤◌, [], 
 ghost use Rattle.lexer.specs.Lines.{fields_of, row_of, rows_of, lines_of};
 
 use super::super::line::{Filled, Line};
-use super::super::scan::line_end;
+use super::super::scan::line_len;
 use super::Lexer;
 
 impl<'a> Lexer<'a> {
@@ -30,7 +30,7 @@ impl<'a> Lexer<'a> {
         if from >= text.len() {
             return None;
         }
-        let end = line_end(text, from);
+        let end = from + line_len(&text[from..]);
         let line = Line {
             number: self.number,
             at: from,
@@ -41,7 +41,8 @@ impl<'a> Lexer<'a> {
         Some(line)
     }
 
-    /// The next line that has fields: its first field, and what is left of it.
+    /// The next line that has fields.
+    // No `Iterator`: a `for` would know what a line says and not where it lies in the text, which its callers need.
     pub fn next_filled(&mut self) -> Option<Filled<'a>>
         ensures cases { MatchOption result ((lines_of self.old ≡ []) × (lines_of self.new ≡ [])) (λ l. lines_of self.old ≡ fields_of l ∷ lines_of self.new) }
         ensures same { self.new.text.now ≡ self.old.text.now }
