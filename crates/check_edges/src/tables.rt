@@ -15,7 +15,12 @@ const MOV: Item = Item::Instruction(Instruction::Mov {
 /// What no text gives, each in four records.
 static TABLES: [[Item; 4]; 15] = [
     // a blank record in front
-    [Item::Blank, Item::Instruction(Instruction::Ret), Item::Blank, Item::Blank],
+    [
+        Item::Blank,
+        Item::Instruction(Instruction::Ret),
+        Item::Blank,
+        Item::Blank,
+    ],
     // a register 8, to write
     [
         Item::Instruction(Instruction::Mov {
@@ -57,11 +62,26 @@ static TABLES: [[Item; 4]; 15] = [
         Item::Blank,
     ],
     // a jump to itself
-    [MOV, Item::Instruction(Instruction::Jump { to: 1 }), Item::Instruction(Instruction::Ret), Item::Blank],
+    [
+        MOV,
+        Item::Instruction(Instruction::Jump { to: 1 }),
+        Item::Instruction(Instruction::Ret),
+        Item::Blank,
+    ],
     // a jump back
-    [MOV, Item::Instruction(Instruction::Jump { to: 0 }), Item::Instruction(Instruction::Ret), Item::Blank],
+    [
+        MOV,
+        Item::Instruction(Instruction::Jump { to: 0 }),
+        Item::Instruction(Instruction::Ret),
+        Item::Blank,
+    ],
     // a jump past the end
-    [MOV, Item::Instruction(Instruction::Jump { to: 3 }), Item::Instruction(Instruction::Ret), Item::Blank],
+    [
+        MOV,
+        Item::Instruction(Instruction::Jump { to: 3 }),
+        Item::Instruction(Instruction::Ret),
+        Item::Blank,
+    ],
     // a load from a buffer that is not there
     [
         Item::Buffer {
@@ -117,7 +137,12 @@ static TABLES: [[Item; 4]; 15] = [
         Item::Blank,
     ],
     // a record after a blank
-    [MOV, Item::Instruction(Instruction::Ret), Item::Blank, Item::Instruction(Instruction::Ret)],
+    [
+        MOV,
+        Item::Instruction(Instruction::Ret),
+        Item::Blank,
+        Item::Instruction(Instruction::Ret),
+    ],
 ];
 
 /// The check of the table is refused, with lists that are long enough.

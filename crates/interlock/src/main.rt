@@ -4,25 +4,30 @@
 
 mod site;
 
-use checker::{Draft, PassRefusal, Passed};
+use checker::{Draft, Passed};
 use domain::Domain;
 use product::Standard;
 use reader::read;
-use report::{print_fault, print_reports};
-use rule::Record;
+use report::{PrintRefusal, print_fault, print_reports};
+use rule::{MOST_RECORDS, Record};
 use site::{FOUND, Site};
 use std::fs;
 use std::io::Write;
 use step::{Mark, Report};
-
-/// Eight buffers and 96 instructions.
-const MOST_RECORDS: usize = 104;
 
 /// How many routes the site has.
 const ROUTES: u64 = 8;
 
 /// Room for every answer of the checker: a heading, and a line for each instruction.
 const MOST_BYTES: usize = 10200;
+
+/// Prints what the checker tells; an output that is too short tells nothing.
+fn print(rt: &HostRuntime, told: Result<usize, PrintRefusal>, output: &[u8]) -> anyhow::Result<()> {
+    if let Ok(len) = told {
+        rt.stdout().write_all(output.get(..len).unwrap_or(&[]))?;
+    }
+    Ok(())
+}
 
 /// Checks a draft over the standard product, and prints the reports.
 fn check(rt: &HostRuntime, draft: &mut Draft<'_>, instructions: usize) -> anyhow::Result<()> {
@@ -34,10 +39,7 @@ fn check(rt: &HostRuntime, draft: &mut Draft<'_>, instructions: usize) -> anyhow
     match draft.check(&mut rows, &mut marks, &mut reports) {
         Ok(tally) => {
             let told = reports.as_slice().get(..tally.count).unwrap_or(&[]);
-            if let Ok(len) = print_reports(told, &mut output) {
-                rt.stdout().write_all(output.get(..len).unwrap_or(&[]))?;
-            }
-            Ok(())
+            print(rt, print_reports(told, &mut output), &output)
         }
         Err(refusal) => {
             let number = refusal.number();
@@ -81,52 +83,49 @@ fn work(rt: &HostRuntime, rule: &Passed<'_>) -> anyhow::Result<()> {
     site.show(rt, rule, &memory)
 }
 
-/// Reads a text into the table, and says how many instructions it has, or prints why it is no rule.
-fn load(rt: &HostRuntime, text: &[u8], table: &mut [Record]) -> anyhow::Result<Option<usize>> {
-    match read(text, table) {
+/// Reads the text of a file into the table, and says how many instructions it has, or prints why it is no rule.
+fn load(rt: &HostRuntime, file: &str, table: &mut [Record]) -> anyhow::Result<Option<usize>> {
+    let text = fs::read(rt, file)?;
+    match read(text.as_slice(), table) {
         Ok(shape) => Ok(Some(shape.instructions)),
         Err(fault) => {
             let mut output = [0u8; MOST_BYTES];
-            if let Ok(len) = print_fault(fault, &mut output) {
-                rt.stdout().write_all(output.get(..len).unwrap_or(&[]))?;
-            }
+            print(rt, print_fault(fault, &mut output), &output)?;
             Ok(None)
         }
     }
 }
 
-/// Says whether a draft was passed, and prints the number of the refusal where it was not.
-fn is_passed(rt: &HostRuntime, passed: Result<(), PassRefusal>) -> anyhow::Result<bool> {
-    match passed {
-        Ok(()) => Ok(true),
+/// Checks the rule in the table and passes it, or prints the number of the refusal.
+fn passed<'a>(
+    rt: &HostRuntime,
+    table: &'a [Record],
+    instructions: usize,
+) -> anyhow::Result<Option<Passed<'a>>> {
+    let mut draft = Draft::of(table);
+    check(rt, &mut draft, instructions)?;
+    let mut rule = Passed::built_in();
+    match draft.pass(&mut rule) {
+        Ok(()) => Ok(Some(rule)),
         Err(refusal) => {
             let number = refusal.number();
             println!(rt; "not passed: {number}")?;
-            Ok(false)
+            Ok(None)
         }
     }
 }
 
 fn main(rt: HostRuntime) -> anyhow::Result<()> {
     let mut table = [Record::BLANK; MOST_RECORDS];
-    let site = fs::read(&rt, "site.rule")?;
-    let Some(instructions) = load(&rt, site.as_slice(), &mut table)? else {
+    let Some(instructions) = load(&rt, "site.rule", &mut table)? else {
         return Ok(());
     };
-    let mut draft = Draft::of(&table);
-    check(&rt, &mut draft, instructions)?;
-    let mut rule = Passed::built_in();
-    if is_passed(&rt, draft.pass(&mut rule))? {
+    if let Some(rule) = passed(&rt, &table, instructions)? {
         work(&rt, &rule)?;
     }
     // the rule has run for the last time, so the table is free for another text
-    let next = fs::read(&rt, "next.rule")?;
-    let Some(instructions) = load(&rt, next.as_slice(), &mut table)? else {
-        return Ok(());
-    };
-    let mut draft = Draft::of(&table);
-    check(&rt, &mut draft, instructions)?;
-    let mut rule = Passed::built_in();
-    let _ = is_passed(&rt, draft.pass(&mut rule))?;
+    if let Some(instructions) = load(&rt, "next.rule", &mut table)? {
+        let _ = passed(&rt, &table, instructions)?;
+    }
     Ok(())
 }

@@ -3,20 +3,20 @@ use checker::{Call, Passed};
 use std::alloc::Global;
 use std::fs;
 
-/// The rule's buffers by their numbers. The last has what the rule finds.
-const ROUTES: usize = 0;
-
-const SIGNALS: usize = 1;
-
-const POINTS: usize = 2;
-
+/// The buffer that the rule has for what it finds, behind those of the tables.
 pub(crate) const FOUND: usize = 3;
+
+/// A table: its name, which is that of its file, the number of its buffer, and its bytes.
+#[derive(Drop)]
+struct Table {
+    name: &'static str,
+    buffer: usize,
+    bytes: Vec<u8>,
+}
 
 #[derive(Drop)]
 pub(crate) struct Site {
-    routes: Vec<u8>,
-    signals: Vec<u8>,
-    points: Vec<u8>,
+    tables: [Table; 3],
 }
 
 /// The bytes that a text gives: decimal numbers between spaces, and comments from `#` on.
@@ -34,56 +34,53 @@ fn bytes_of(heap: Global, text: &str) -> anyhow::Result<Vec<u8>> {
     Ok(bytes)
 }
 
-fn read_table(rt: &HostRuntime, name: &str) -> anyhow::Result<Vec<u8>> {
-    let text = fs::read_to_string(rt, name)?;
-    bytes_of(rt.alloc(), text.as_str())
-}
+impl Table {
+    fn read(rt: &HostRuntime, name: &'static str, buffer: usize) -> anyhow::Result<Table> {
+        let text = fs::read_to_string(rt, name)?;
+        let bytes = bytes_of(rt.alloc(), text.as_str())?;
+        Ok(Table {
+            name,
+            buffer,
+            bytes,
+        })
+    }
 
-/// Says of a buffer whether it has the bytes of its table.
-fn show_kept(
-    rt: &HostRuntime,
-    name: &str,
-    buffer: Option<&[u8]>,
-    table: &[u8],
-) -> anyhow::Result<()> {
-    let kept = match buffer {
-        Some(bytes) => bytes == table,
-        None => false,
-    };
-    let state = if kept { "as filled" } else { "ALTERED" };
-    println!(rt; "{name} {state}")?;
-    Ok(())
+    /// The fill of the whole buffer.
+    fn fill(&self) -> Call<'_> {
+        Call::Fill {
+            buffer: self.buffer,
+            offset: 0,
+            bytes: self.bytes.as_slice(),
+        }
+    }
+
+    /// Says whether the memory still has the table as it was filled.
+    fn show(&self, rt: &HostRuntime, rule: &Passed<'_>, memory: &[u8]) -> anyhow::Result<()> {
+        let kept = rule
+            .buffer(memory, self.buffer)
+            .is_some_and(|bytes| bytes == self.bytes.as_slice());
+        let state = if kept { "as filled" } else { "ALTERED" };
+        let name = self.name;
+        println!(rt; "{name} {state}")?;
+        Ok(())
+    }
 }
 
 impl Site {
     pub(crate) fn read(rt: &HostRuntime) -> anyhow::Result<Site> {
         Ok(Site {
-            routes: read_table(rt, "routes")?,
-            signals: read_table(rt, "signals")?,
-            points: read_table(rt, "points")?,
+            tables: [
+                Table::read(rt, "routes", 0)?,
+                Table::read(rt, "signals", 1)?,
+                Table::read(rt, "points", 2)?,
+            ],
         })
     }
 
     /// Fills the read-only buffers of the rule, and answers how many fills were refused.
     pub(crate) fn fill(&self, rule: &Passed<'_>, memory: &mut [u8]) -> usize {
-        let calls = [
-            Call::Fill {
-                buffer: ROUTES,
-                offset: 0,
-                bytes: self.routes.as_slice(),
-            },
-            Call::Fill {
-                buffer: SIGNALS,
-                offset: 0,
-                bytes: self.signals.as_slice(),
-            },
-            Call::Fill {
-                buffer: POINTS,
-                offset: 0,
-                bytes: self.points.as_slice(),
-            },
-        ];
-        rule.carry_out(&calls, memory)
+        let [routes, signals, points] = &self.tables;
+        rule.carry_out(&[routes.fill(), signals.fill(), points.fill()], memory)
     }
 
     /// Says of each table whether the memory still has it as it was filled.
@@ -93,23 +90,9 @@ impl Site {
         rule: &Passed<'_>,
         memory: &[u8],
     ) -> anyhow::Result<()> {
-        show_kept(
-            rt,
-            "routes",
-            rule.buffer(memory, ROUTES),
-            self.routes.as_slice(),
-        )?;
-        show_kept(
-            rt,
-            "signals",
-            rule.buffer(memory, SIGNALS),
-            self.signals.as_slice(),
-        )?;
-        show_kept(
-            rt,
-            "points",
-            rule.buffer(memory, POINTS),
-            self.points.as_slice(),
-        )
+        for table in &self.tables {
+            table.show(rt, rule, memory)?;
+        }
+        Ok(())
     }
 }

@@ -20,10 +20,12 @@ fn check_word(rt: &impl Abort, heap: Global, number: &str, expected: u64) -> Res
     match first {
         Record {
             line: 3,
-            item: Item::Instruction(Instruction::Mov {
-                target: 0,
-                source: Operand::Constant(word),
-            }),
+            item: Item::Instruction(
+                Instruction::Mov {
+                    target: 0,
+                    source: Operand::Constant(word),
+                },
+            ),
         } => {
             assert_eq!(rt; word, expected);
             Ok(())
