@@ -5,7 +5,7 @@ use parity::Parity;
 use product::{Product, Standard};
 use range::Range;
 use reader::read;
-use rule::Record;
+use rule::{MOST_INSTRUCTIONS, MOST_RECORDS, Record};
 use std::process::Abort;
 use std::test::Fail;
 use step::{Cause, Mark, Report};
@@ -65,7 +65,7 @@ pub(crate) fn answer<D: Domain>(
     match Draft::of(table).check(rows, marks, reports) {
         Ok(Tally { count, answer }) => {
             assert!(rt; count <= reports.len());
-            check_told(rt, rule, &reports[0..count], expected);
+            check_told(rt, rule, &reports[..count], expected);
             Ok(answer)
         }
         Err(_) => Err(Fail::new("the check was refused")),
@@ -79,7 +79,7 @@ pub(crate) fn answer_text<D: Domain>(
     expected: &[Told],
     rows: &mut [D],
 ) -> Result<Option<D>, Fail> {
-    let mut table = [Record::BLANK; 104];
+    let mut table = [Record::BLANK; MOST_RECORDS];
     if read(text.as_bytes(), &mut table).is_err() {
         return Err(Fail::new("the text was refused"));
     }
@@ -89,16 +89,31 @@ pub(crate) fn answer_text<D: Domain>(
         &table,
         expected,
         rows,
-        &mut [OLD_MARK; 96],
-        &mut [OLD_REPORT; 96],
+        &mut [OLD_MARK; MOST_INSTRUCTIONS],
+        &mut [OLD_REPORT; MOST_INSTRUCTIONS],
     )
 }
 
 /// The check of a text comes to the same reports over each of three products.
 pub(crate) fn all_tell(rt: &impl Abort, text: &str, expected: &[Told]) -> Result<(), Fail> {
-    answer_text(rt, text, expected, &mut [Standard::only(OLD_WORD); 768])?;
-    answer_text(rt, text, expected, &mut [Mirrored::only(OLD_WORD); 768])?;
-    answer_text(rt, text, expected, &mut [WithParity::only(OLD_WORD); 768])?;
+    answer_text(
+        rt,
+        text,
+        expected,
+        &mut [Standard::only(OLD_WORD); 8 * MOST_INSTRUCTIONS],
+    )?;
+    answer_text(
+        rt,
+        text,
+        expected,
+        &mut [Mirrored::only(OLD_WORD); 8 * MOST_INSTRUCTIONS],
+    )?;
+    answer_text(
+        rt,
+        text,
+        expected,
+        &mut [WithParity::only(OLD_WORD); 8 * MOST_INSTRUCTIONS],
+    )?;
     Ok(())
 }
 
@@ -109,13 +124,13 @@ fn check_kept(
     reports: &[Report],
 ) -> Result<(), Fail> {
     for row in rows {
-        assert!(rt; row.has(OLD_WORD) && !row.has(OLD_WORD + 1), "a value");
+        assert_eq!(rt; *row, Standard::only(OLD_WORD), "a value");
     }
     for mark in marks {
-        assert!(rt; !mark.reached && mark.set[0] && mark.set[7], "a mark");
+        assert_eq!(rt; *mark, OLD_MARK, "a mark");
     }
     for report in reports {
-        assert_eq!(rt; report.line, OLD_REPORT.line, "a report");
+        assert_eq!(rt; *report, OLD_REPORT, "a report");
     }
     Ok(())
 }

@@ -1,6 +1,7 @@
 use super::expect::{OLD_WORD, Told, all_tell, answer_text};
 use domain::Domain;
 use product::Standard;
+use rule::MOST_INSTRUCTIONS;
 use std::alloc::{AllocError, Global};
 use std::test::Fail;
 
@@ -50,7 +51,7 @@ fn a_jump_in_every_second_place(rt: HostRuntime) -> Result<(), Fail> {
         &rt,
         text.as_str(),
         &[],
-        &mut [Standard::only(OLD_WORD); 768],
+        &mut [Standard::only(OLD_WORD); 8 * MOST_INSTRUCTIONS],
     )? {
         Some(answer) => {
             assert!(rt; answer.has(0) && answer.has(47) && !answer.has(48));

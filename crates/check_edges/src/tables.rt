@@ -1,7 +1,7 @@
 use super::expect::{OLD_MARK, OLD_REPORT, OLD_WORD, refused};
 use domain::Domain;
 use product::Standard;
-use rule::{Instruction, Item, Mode, Operand, Record};
+use rule::{Instruction, Item, MOST_RECORDS, Mode, Operand, Record};
 use std::process::Abort;
 use std::test::Fail;
 use words::Width;
@@ -159,7 +159,7 @@ fn no_rule(rt: &impl Abort, table: &[Record]) -> Result<(), Fail> {
 #[test]
 fn tables_that_no_text_gives(rt: HostRuntime) -> Result<(), Fail> {
     for items in TABLES.iter() {
-        let mut table = [Record::BLANK; 104];
+        let mut table = [Record::BLANK; MOST_RECORDS];
         for (record, item) in table.iter_mut().zip(items.iter()) {
             *record = Record {
                 line: 1,

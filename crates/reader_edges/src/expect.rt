@@ -1,7 +1,7 @@
 //! What a reading must come to. Every table holds other records before, so that nothing of them may be left.
 use grammar::Refusal;
 use reader::read;
-use rule::{Instruction, Item, Record};
+use rule::{Instruction, Item, MOST_RECORDS, Record, Shape};
 use std::process::Abort;
 use std::test::Fail;
 
@@ -11,36 +11,18 @@ pub(crate) const OLD: Record = Record {
     item: Item::Instruction(Instruction::Jump { to: 9999 }),
 };
 
-fn is_blank(record: Record) -> bool {
-    match record {
-        Record {
-            line: 0,
-            item: Item::Blank,
-        } => true,
-        _ => false,
-    }
-}
-
-fn is_old(record: Record) -> bool {
-    record.line == OLD.line
-}
-
 /// The records from this place on are blank, and those before it are not, nor are they the old ones.
 fn check_used(rt: &impl Abort, table: &[Record], count: usize) -> Result<(), Fail> {
     for record in table.iter().take(count) {
-        assert!(rt; !is_blank(*record) && !is_old(*record), "a record in use");
+        assert!(rt;
+            *record != Record::BLANK && record.line != OLD.line,
+            "a record in use"
+        );
     }
     for record in table.iter().skip(count) {
-        assert!(rt; is_blank(*record), "a record not in use");
+        assert_eq!(rt; *record, Record::BLANK, "a record not in use");
     }
     Ok(())
-}
-
-fn check_refusal(rt: &impl Abort, found: Refusal, expected: Refusal) {
-    assert_eq!(rt; found.number, expected.number, "number");
-    assert_eq!(rt; found.line, expected.line, "line");
-    assert_eq!(rt; found.place, expected.place, "place");
-    assert_eq!(rt; found.layer, expected.layer, "layer");
 }
 
 /// The text is refused so, and leaves the table blank.
@@ -54,7 +36,7 @@ pub(crate) fn refused_into(
     match read(text.as_bytes(), table) {
         Ok(_) => Err(Fail::new("the text was read")),
         Err(fault) => {
-            check_refusal(rt, fault.refusal(), expected);
+            assert_eq!(rt; fault.refusal(), expected);
             check_used(rt, table, 0)
         }
     }
@@ -62,7 +44,7 @@ pub(crate) fn refused_into(
 
 /// The same with a table that is long enough for every rule.
 pub(crate) fn refused(rt: &impl Abort, text: &str, expected: Refusal) -> Result<(), Fail> {
-    let mut table = [OLD; 104];
+    let mut table = [OLD; MOST_RECORDS];
     refused_into(rt, &mut table, text, expected)
 }
 
@@ -93,8 +75,13 @@ pub(crate) fn read_into(
     table.fill(OLD);
     match read(text.as_bytes(), table) {
         Ok(shape) => {
-            assert_eq!(rt; shape.buffers, buffers, "buffers");
-            assert_eq!(rt; shape.instructions, instructions, "instructions");
+            assert_eq!(rt;
+                shape,
+                Shape {
+                    buffers,
+                    instructions
+                }
+            );
             check_used(rt, table, buffers.saturating_add(instructions))
         }
         Err(fault) => {
@@ -111,6 +98,6 @@ pub(crate) fn accepted(
     buffers: usize,
     instructions: usize,
 ) -> Result<(), Fail> {
-    let mut table = [OLD; 104];
+    let mut table = [OLD; MOST_RECORDS];
     read_into(rt, &mut table, text, buffers, instructions)
 }

@@ -68,17 +68,15 @@ fn a_comment_ends_a_field_in_its_middle(rt: HostRuntime) -> Result<(), Fail> {
         2,
     )?;
     let first = table[0];
-    assert!(rt;
-        matches!(
-            first,
-            Record {
-                line: 3,
-                item: Item::Instruction(Instruction::Mov {
-                    target: 0,
-                    source: Operand::Constant(12),
-                }),
-            }
-        )
+    assert_eq!(rt;
+        first,
+        Record {
+            line: 3,
+            item: Item::Instruction(Instruction::Mov {
+                target: 0,
+                source: Operand::Constant(12),
+            }),
+        }
     );
     Ok(())
 }

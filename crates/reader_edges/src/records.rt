@@ -32,30 +32,26 @@ fn record(rt: &impl Abort, place: usize) -> Result<Record, Fail> {
 #[test]
 fn buffers_have_their_size_and_mode(rt: HostRuntime) -> Result<(), Fail> {
     let tab = record(&rt, 0)?;
-    assert!(rt;
-        matches!(
-            tab,
-            Record {
-                line: 2,
-                item: Item::Buffer {
-                    size: 64,
-                    mode: Mode::ReadOnly,
-                },
-            }
-        )
+    assert_eq!(rt;
+        tab,
+        Record {
+            line: 2,
+            item: Item::Buffer {
+                size: 64,
+                mode: Mode::ReadOnly,
+            },
+        }
     );
     let out = record(&rt, 1)?;
-    assert!(rt;
-        matches!(
-            out,
-            Record {
-                line: 4,
-                item: Item::Buffer {
-                    size: 8,
-                    mode: Mode::ReadWrite,
-                },
-            }
-        )
+    assert_eq!(rt;
+        out,
+        Record {
+            line: 4,
+            item: Item::Buffer {
+                size: 8,
+                mode: Mode::ReadWrite,
+            },
+        }
     );
     Ok(())
 }
@@ -63,31 +59,27 @@ fn buffers_have_their_size_and_mode(rt: HostRuntime) -> Result<(), Fail> {
 #[test]
 fn operations_have_their_operands(rt: HostRuntime) -> Result<(), Fail> {
     let and = record(&rt, 2)?;
-    assert!(rt;
-        matches!(
-            and,
-            Record {
-                line: 6,
-                item: Item::Instruction(Instruction::Alu {
-                    operation: Operation::And,
-                    target: 1,
-                    operand: Operand::Constant(63),
-                }),
-            }
-        )
+    assert_eq!(rt;
+        and,
+        Record {
+            line: 6,
+            item: Item::Instruction(Instruction::Alu {
+                operation: Operation::And,
+                target: 1,
+                operand: Operand::Constant(63),
+            }),
+        }
     );
     let mov = record(&rt, 7)?;
-    assert!(rt;
-        matches!(
-            mov,
-            Record {
-                line: 12,
-                item: Item::Instruction(Instruction::Mov {
-                    target: 0,
-                    source: Operand::Constant(u64::MAX),
-                }),
-            }
-        )
+    assert_eq!(rt;
+        mov,
+        Record {
+            line: 12,
+            item: Item::Instruction(Instruction::Mov {
+                target: 0,
+                source: Operand::Constant(u64::MAX),
+            }),
+        }
     );
     Ok(())
 }
@@ -95,34 +87,30 @@ fn operations_have_their_operands(rt: HostRuntime) -> Result<(), Fail> {
 #[test]
 fn loads_and_stores_have_the_number_of_their_buffer(rt: HostRuntime) -> Result<(), Fail> {
     let load = record(&rt, 3)?;
-    assert!(rt;
-        matches!(
-            load,
-            Record {
-                line: 7,
-                item: Item::Instruction(Instruction::Load {
-                    width: Width::W8,
-                    target: 0,
-                    buffer: 0,
-                    index: Operand::Register(1),
-                }),
-            }
-        )
+    assert_eq!(rt;
+        load,
+        Record {
+            line: 7,
+            item: Item::Instruction(Instruction::Load {
+                width: Width::W8,
+                target: 0,
+                buffer: 0,
+                index: Operand::Register(1),
+            }),
+        }
     );
     let store = record(&rt, 5)?;
-    assert!(rt;
-        matches!(
-            store,
-            Record {
-                line: 9,
-                item: Item::Instruction(Instruction::Store {
-                    width: Width::W16,
-                    buffer: 1,
-                    index: Operand::Constant(0),
-                    source: 0,
-                }),
-            }
-        )
+    assert_eq!(rt;
+        store,
+        Record {
+            line: 9,
+            item: Item::Instruction(Instruction::Store {
+                width: Width::W16,
+                buffer: 1,
+                index: Operand::Constant(0),
+                source: 0,
+            }),
+        }
     );
     Ok(())
 }
@@ -130,39 +118,33 @@ fn loads_and_stores_have_the_number_of_their_buffer(rt: HostRuntime) -> Result<(
 #[test]
 fn jumps_have_the_number_of_their_target(rt: HostRuntime) -> Result<(), Fail> {
     let branch = record(&rt, 4)?;
-    assert!(rt;
-        matches!(
-            branch,
-            Record {
-                line: 8,
-                item: Item::Instruction(Instruction::Branch {
-                    condition: Condition::Less,
-                    left: 0,
-                    right: Operand::Constant(10),
-                    to: 5,
-                }),
-            }
-        )
+    assert_eq!(rt;
+        branch,
+        Record {
+            line: 8,
+            item: Item::Instruction(Instruction::Branch {
+                condition: Condition::Less,
+                left: 0,
+                right: Operand::Constant(10),
+                to: 5,
+            }),
+        }
     );
     let jump = record(&rt, 6)?;
-    assert!(rt;
-        matches!(
-            jump,
-            Record {
-                line: 10,
-                item: Item::Instruction(Instruction::Jump { to: 6 }),
-            }
-        )
+    assert_eq!(rt;
+        jump,
+        Record {
+            line: 10,
+            item: Item::Instruction(Instruction::Jump { to: 6 }),
+        }
     );
     let ret = record(&rt, 8)?;
-    assert!(rt;
-        matches!(
-            ret,
-            Record {
-                line: 14,
-                item: Item::Instruction(Instruction::Ret),
-            }
-        )
+    assert_eq!(rt;
+        ret,
+        Record {
+            line: 14,
+            item: Item::Instruction(Instruction::Ret),
+        }
     );
     Ok(())
 }
