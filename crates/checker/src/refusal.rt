@@ -10,6 +10,7 @@ pub enum CheckRefusal {
     NoRoom,
 }
 
+// The numbers are what is told outside. They stand in matches and not at the variants, since two cases share 12.
 impl CheckRefusal {
     pub fn number(self) -> u8
         ensures { result ≡ check_number self }

@@ -18,6 +18,7 @@ fn drive(rule: Rule<'_>, mut registers: Registers, memory: &mut [u8]) -> Option<
 {
     let code = rule.code();
     let mut at = 0;
+    // the loop counts the steps, which are answered; where control is, each instruction says
     for steps in 0..code.len() {
         // A rule has nothing else there, and the proof needs no word of that: what is no instruction is stuck.
         let Item::Instruction(instruction) = code[at].item else {

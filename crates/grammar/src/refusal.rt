@@ -5,7 +5,8 @@ use super::fault::ProgramFault;
 use lexer::{FieldFault, Place};
 use syntax::LineFault;
 
-/// What a fault tells: the number of the refusal, the spot that it names, and the layer that found it.
+/// What a fault tells: the number of the refusal, the spot that it names, and the layer that found it. The fault itself
+/// is an enum; these are the numbers that are printed of it.
 #[derive(Clone, Copy, PartialEq, Eq, Debug)]
 pub struct Refusal {
     pub number: u8,

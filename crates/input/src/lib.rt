@@ -12,7 +12,8 @@ pub fn fill(rt: &HostRuntime, buffer: &mut [u8]) -> io::Result<usize>
 {
     let mut input = rt.stdin();
     let mut len = 0;
-    // a file may come in any number of parts; each turn but the last reads a byte or more
+    // a file may come in any number of parts, and there is no heap to gather them by `read_to_end`; each turn but the last
+    // reads a byte or more
     for _ in 0..buffer.len() {
         let n = input.read(&mut buffer[len..])?;
         if n == 0 {

@@ -14,6 +14,7 @@ fn natural_capped(digits: &[u8]) -> Option<u128>
         return None;
     }
     let mut n: u128 = 0;
+    // no `try_fold`: its closure could not know that the number so far is at most the cap
     for d in digits {
         match *d {
             b'0'..=b'9' => n = (n * 10 + u128::from(*d - b'0')).min(CAP),

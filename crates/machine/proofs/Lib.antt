@@ -1,6 +1,5 @@
 pub mod Bytes
 pub mod Counts
-pub mod Written
 pub mod Keeping
 pub mod Layouts
 pub mod Places

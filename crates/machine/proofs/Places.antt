@@ -1,18 +1,10 @@
 -- Where the instructions of a rule stand in its table.
-use Rattle.std.proofs.Common.{◌≡◌, ℕ, ◌+◌, ◌<◌, not, List, length, get_or, take, sym, arith}
-use Rattle.std.proofs.lemmas.List.{length-drop, get_or-drop, get_or-take}
+use Rattle.std.proofs.Common.{◌≡◌, ℕ, ◌+◌, ◌<◌, not, List, length, get_or, take, sym}
+use Rattle.std.proofs.lemmas.List.{get_or-drop, get_or-take}
 use Rattle.std.proofs.lemmas.List.Folds.{length-prefix_len}
-use Rattle.std.proofs.lemmas.List.Sums.{prefix_len-le-length}
 use Rattle.rule.specs.declared.record.Record.{Record}
-use Rattle.rule.specs.Records.{blank, is_buffer, is_blank}
+use Rattle.rule.specs.Records.{blank, is_blank}
 use Rattle.machine.specs.Tables.{buffer_count, code_length, code_at, behind}
-
-pub code_inside : (p : List Record) (k : ℕ) → k < code_length p → buffer_count p + k < length p
-code_inside p k h =
-    let a = prefix_len-le-length (λ (r : Record). is_buffer r.item) p in
-    let b = prefix_len-le-length (λ (r : Record). not (is_blank r.item)) (behind p) in
-    let c = length-drop (buffer_count p) p in
-    omega arith
 
 pub code_read : (p : List Record) (k : ℕ) → get_or p (buffer_count p + k) blank ≡ code_at p k
 code_read p k = sym (get_or-drop (buffer_count p) p k blank)

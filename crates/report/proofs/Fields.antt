@@ -1,15 +1,11 @@
 -- A line, field by field.
-use Rattle.std.proofs.Common.{◌≡◌, ℕ, ◌+◌, ◌*◌, ◌≤◌, List, [], ◌∷◌, ◌++◌, length, codes, Option, refl, ap}
-use Rattle.report.specs.Lines.{field_text, line_text}
+use Rattle.std.proofs.Common.{◌≡◌, ℕ, ◌+◌, ◌*◌, ◌≤◌, List, [], ◌∷◌, ◌++◌, length, codes, Option}
+use Rattle.report.specs.Lines.{field_text}
 
 -- what follows the first field: each further one behind a space, and the line feed
 abbrev pub rest_text : List (Option ℕ) → List ℕ
 rest_text [] = codes "\n"
 rest_text (f ∷ fs) = codes " " ++ (field_text f ++ rest_text fs)
-
-pub line_first : (f : Option ℕ) (fs : List (Option ℕ)) → line_text (f ∷ fs) ≡ field_text f ++ rest_text fs
-line_first f [] = refl
-line_first f (g ∷ fs) = ap (λ t. field_text f ++ (codes " " ++ t)) (line_first g fs)
 
 -- the bytes so far and those of the fields to come are the line, and there is room for these
 pub record LineSoFar (bytes : List ℕ) (left : List (Option ℕ)) (line : List ℕ) : Type 0 where

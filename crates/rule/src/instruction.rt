@@ -10,7 +10,7 @@ pub enum Operand {
     Constant(u64),
 }
 
-/// On what a branch jumps: `jeq`, `jne`, `jlt` and `jle`.
+/// On what a branch jumps: `jeq`, `jne`, `jlt` and `jle`. Four of the six relations: a table can hold no other branch.
 #[derive(Clone, Copy, PartialEq, Eq, Debug)]
 pub enum Condition {
     Equal,

@@ -18,6 +18,7 @@ pub enum Cause {
 
 impl Cause {
     /// The number by which a report tells the cause.
+    // By a match and no `as u8`: what is told stands beside its case, and the order of the cases tells nothing.
     pub fn number(self) -> u8
         ensures { result ≡ cause_number self }
     {

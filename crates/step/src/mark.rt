@@ -1,4 +1,5 @@
 /// What is known of control before an instruction: whether it can come there, and which registers are then set.
+// No `Option` of the registers: a mark that is lent has them whether it is reached or not, and a refused check keeps both.
 #[derive(Clone, Copy, PartialEq, Eq, Debug)]
 pub struct Mark {
     pub reached: bool,

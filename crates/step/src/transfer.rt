@@ -121,6 +121,8 @@ fn choose<D: Domain>(report: Option<Report>, value: D) -> D
     }
 }
 
+// The two tables of relations are matches, each arm a line: what they have in common is their shape alone.
+
 fn opposite(relation: Relation) -> Relation
     ensures { result ≡ opposite_of relation }
 {

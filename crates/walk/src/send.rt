@@ -7,6 +7,9 @@ use domain::Domain;
 use std::array;
 use step::{Change, Jump, Mark, Patch};
 
+// What a patch makes of a value and of a mark's bit: two functions, since each says its own word where the patch is of the
+// register, and a closure for that word would be longer than the match.
+
 fn patch_value<D: Domain>(patch: Option<Patch<D>>, register: usize, value: D) -> D
     ensures { result ≡ patch_value patch register value }
 {

@@ -32,6 +32,9 @@ fn join_answers<D: Domain>(old: Option<D>, new: Option<D>) -> Option<D>
     }
 }
 
+// Rows, marks and reports are passed one by one. A struct of the three would hold three `&mut`, and each method would owe a
+// clause for each of them, that it is still the reference that was lent.
+
 /// What an instruction makes of its row goes on.
 fn follow<D: Domain>(
     at: usize,
