@@ -13,14 +13,11 @@ use domain::Domain;
 use grammar::ProgramFault;
 use product::Standard;
 use reader::read;
+pub use report::LONGEST;
 use report::{PrintRefusal, print_fault, print_reports};
 use rule::{MOST_INSTRUCTIONS, MOST_RECORDS, Record, Shape};
 use step::{Mark, Report};
 use walk::Tally;
-
-/// Room for every answer: a heading of 31 bytes, and for each of 96 instructions a line of five numbers, each of at most
-/// twenty digits with a byte behind them.
-pub const LONGEST: usize = 31 + MOST_INSTRUCTIONS * 105;
 
 /// Reads a text into a table of 104 records. What is read is a rule.
 fn read_rule(text: &[u8], table: &mut [Record]) -> Result<Shape, ProgramFault>

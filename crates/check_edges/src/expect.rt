@@ -36,7 +36,7 @@ pub(crate) const OLD_REPORT: Report = Report {
     most: 0,
 };
 
-/// What is asked of a report: its line, and the number of its cause.
+/// What is asked of a report: its line, and the number of its cause, which is what is told of it.
 #[derive(Clone, Copy)]
 pub(crate) struct Told {
     pub(crate) line: usize,

@@ -56,10 +56,7 @@ impl Domain for Range {
     }
 
     fn only(word: u64) -> Range {
-        Range {
-            low: word,
-            high: word,
-        }
+        Range::from(word)
     }
 
     fn low(width: Width) -> Range {
@@ -73,6 +70,7 @@ impl Domain for Range {
         self.least() <= word && word <= self.most()
     }
 
+    // a match, as in every domain: a table of closures would say the same operators with more words
     fn of(operation: Operation, a: Range, b: Range) -> Range {
         match operation {
             Operation::Add => a + b,

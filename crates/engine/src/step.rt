@@ -12,7 +12,8 @@ use machine::Rule;
 use rule::{Condition, Instruction, Operand};
 use words::{Operation, Width};
 
-/// The operation's result; none for a divisor of 0 and a shift by more than 63.
+/// The operation's result; none for a divisor of 0 and a shift by more than 63. A match: a table of closures would say the
+/// same operators with more words.
 fn compute(operation: Operation, x: u64, y: u64) -> Option<u64>
     ensures { result ≡ result_in operation x y }
 {

@@ -8,7 +8,7 @@ use checker::{Draft, Passed};
 use domain::Domain;
 use product::Standard;
 use reader::read;
-use report::{PrintRefusal, print_fault, print_reports};
+use report::{LONGEST, PrintRefusal, print_fault, print_reports};
 use rule::{MOST_RECORDS, Record};
 use site::{FOUND, Site};
 use std::fs;
@@ -17,9 +17,6 @@ use step::{Mark, Report};
 
 /// How many routes the site has.
 const ROUTES: u64 = 8;
-
-/// Room for every answer of the checker: a heading, and a line for each instruction.
-const MOST_BYTES: usize = 10200;
 
 /// Prints what the checker tells; an output that is too short tells nothing.
 fn print(rt: &HostRuntime, told: Result<usize, PrintRefusal>, output: &[u8]) -> anyhow::Result<()> {
@@ -35,7 +32,7 @@ fn check(rt: &HostRuntime, draft: &mut Draft<'_>, instructions: usize) -> anyhow
     let mut rows = vec![in heap; Standard::any(); instructions.saturating_mul(8)]?;
     let mut marks = vec![in heap; Mark::UNREACHED; instructions]?;
     let mut reports = vec![in heap; Report::BLANK; instructions]?;
-    let mut output = [0u8; MOST_BYTES];
+    let mut output = [0u8; LONGEST];
     match draft.check(&mut rows, &mut marks, &mut reports) {
         Ok(tally) => {
             let told = reports.as_slice().get(..tally.count).unwrap_or(&[]);
@@ -89,7 +86,7 @@ fn load(rt: &HostRuntime, file: &str, table: &mut [Record]) -> anyhow::Result<Op
     match read(text.as_slice(), table) {
         Ok(shape) => Ok(Some(shape.instructions)),
         Err(fault) => {
-            let mut output = [0u8; MOST_BYTES];
+            let mut output = [0u8; LONGEST];
             print(rt, print_fault(fault, &mut output), &output)?;
             Ok(None)
         }

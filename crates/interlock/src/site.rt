@@ -23,10 +23,7 @@ pub(crate) struct Site {
 fn bytes_of(heap: Global, text: &str) -> anyhow::Result<Vec<u8>> {
     let mut bytes = Vec::new(heap);
     for line in text.lines() {
-        let numbers = match line.split_once('#') {
-            Some((numbers, _)) => numbers,
-            None => line,
-        };
+        let numbers = line.split_once('#').map_or(line, |(numbers, _)| numbers);
         for number in numbers.split_whitespace() {
             bytes.push(number.parse::<u8>()?)?;
         }

@@ -38,6 +38,7 @@ fn number(text: &[u8]) -> Option<i128>
 pub(crate) fn constant_in(text: &[u8]) -> Option<u64>
     ensures { result ≡ constant_in text.now }
 {
+    // no `try_from`: a word is no `i64`, and what is below zero is told apart by its own bound
     match number(text) {
         Some(n) if n >= 0 && n < 1 << 64 => Some(n as u64),
         Some(n) if n < 0 && n >= -(1 << 63) => Some((n + (1 << 64)) as u64),

@@ -13,6 +13,7 @@ use super::place::Place;
 fn check_characters(text: &[u8]) -> Result<(), CharacterFault>
     ensures { MatchResult result (λ _. foreign text.now ≡ None) (λ f. foreign text.now ≡ Some f.place) }
 {
+    // the line's number, which is told, and no place in a list
     let mut line = 1;
     for (at, b) in text.iter().enumerate() {
         match *b {

@@ -8,10 +8,7 @@ use rule::Record;
 pub fn size_of(table: &[Record], buffer: usize) -> usize
     ensures { result ≡ size_at table.now buffer }
 {
-    match table.get(buffer) {
-        Some(record) => record.item.size(),
-        None => 0,
-    }
+    table.get(buffer).map_or(0, |record| record.item.size())
 }
 
 /// The sizes of all the buffers among the records, together.

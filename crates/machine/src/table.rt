@@ -1,10 +1,10 @@
-ghost use Rattle.std.specs.Prelude.{◌≡◌, ◌*◌, ◌≤◌, true, take, MatchOption, Some, None};
+ghost use Rattle.std.specs.Prelude.{◌≡◌, ◌*◌, ◌≤◌, true, take, IfSome, MatchOption, Some, None};
 ghost use Rattle.machine.specs.Memory.{start_of, total_size};
 ghost use Rattle.machine.specs.Tables.{behind, buffer_count, code_length};
-ghost use Rattle.machine.specs.Valid.{layout_of, table_ok};
+ghost use Rattle.machine.specs.Valid.{layout_of, table_ok, Valid};
 
 use super::memory::sizes_of;
-use super::valid::{is_rule, measure};
+use super::valid::Measured;
 use rule::{Record, Shape};
 
 /// A table that holds a rule: one that some text could give, but for the numbers of its lines.
@@ -20,10 +20,12 @@ pub struct Rule<'a> {
 impl<'a> Rule<'a> {
     /// The rule that a table holds, if it holds one.
     pub fn of(table: &'a [Record]) -> Option<Rule<'a>>
-        ensures { MatchOption result (layout_of table.now ≡ None) (λ r. (layout_of table.now ≡ Some r.shape) × (r.table.now ≡ table.now)) }
+        ensures layout { MatchOption result (layout_of table.now ≡ None) (λ r. (layout_of table.now ≡ Some r.shape) × (r.table.now ≡ table.now)) }
+        ensures valid { IfSome result (λ _. Valid table.now) }
     {
-        let shape = measure(table);
-        if is_rule(table, shape) {
+        let measured = Measured::of(table);
+        if measured.is_rule() {
+            let shape = measured.shape;
             Some(Rule { table, shape })
         } else {
             None

@@ -1,6 +1,6 @@
 ghost use Rattle.std.specs.Prelude.{◌≡◌, ◌+◌, ◌≤◌, ◌&&◌, length};
 ghost use Rattle.rule.specs.declared.record.Item.TheVariants.{Instruction as Instructs};
-ghost use Rattle.machine.specs.Tables.{buffer_count, code_length, filled_count, writable_at};
+ghost use Rattle.machine.specs.Tables.{behind, buffer_count, code_length, filled_count, writable_at};
 ghost use Rattle.machine.specs.Valid.{operand_ok, jump_ok, item_ok, code_ok, is_ret, size_ok, heads_ok, blanks_ok, counts_ok, rest_ok, table_ok};
 
 use rule::{Instruction, Item, MOST_BUFFERS, MOST_INSTRUCTIONS, Operand, Record, Shape};
@@ -76,70 +76,15 @@ fn are_blank(records: &[Record]) -> bool
 fn is_writable(table: &[Record], buffer: usize) -> bool
     ensures { result ≡ writable_at table.now buffer }
 {
-    match table.get(buffer) {
-        Some(record) => record.item.is_writable(),
-        None => false,
-    }
+    table
+        .get(buffer)
+        .is_some_and(|record| record.item.is_writable())
 }
 
 fn fits_jump(n: usize, k: usize, to: usize) -> bool
     ensures { result ≡ jump_ok n k to }
 {
     k < to && to < n
-}
-
-/// Is the instruction one that a text could give as instruction k of n, after so many buffers?
-fn fits(
-    table: &[Record],
-    buffers: usize,
-    n: usize,
-    k: usize,
-    instruction: Instruction<usize>,
-) -> bool
-    requires { buffers ≡ buffer_count table.now }
-    ensures { result ≡ item_ok table.now n k (Instructs instruction) }
-{
-    match instruction {
-        Instruction::Mov { target, source } => target < 8 && fits_operand(source),
-        Instruction::Alu {
-            target,
-            operand,
-            ..
-        } => target < 8 && fits_operand(operand),
-        Instruction::Load {
-            target,
-            buffer,
-            index,
-            ..
-        } => target < 8 && (buffer < buffers && fits_operand(index)),
-        Instruction::Store {
-            buffer,
-            index,
-            source,
-            ..
-        } => {
-            (buffer < buffers && is_writable(table, buffer)) && (fits_operand(index) && source < 8)
-        }
-        Instruction::Jump { to } => fits_jump(n, k, to),
-        Instruction::Branch {
-            left,
-            right,
-            to,
-            ..
-        } => left < 8 && (fits_operand(right) && fits_jump(n, k, to)),
-        Instruction::Ret => true,
-    }
-}
-
-/// Is the item an instruction, and one that a text could give there?
-fn fits_item(table: &[Record], buffers: usize, n: usize, k: usize, item: Item) -> bool
-    requires { buffers ≡ buffer_count table.now }
-    ensures { result ≡ item_ok table.now n k item }
-{
-    match item {
-        Item::Instruction(instruction) => fits(table, buffers, n, k, instruction),
-        Item::Buffer { .. } | Item::Blank => false,
-    }
 }
 
 fn is_ret(item: Item) -> bool
@@ -151,47 +96,122 @@ fn is_ret(item: Item) -> bool
     }
 }
 
-/// Are the first n records behind the buffers instructions that a text could give?
-fn fits_code(table: &[Record], buffers: usize, code: &[Record], n: usize) -> bool
-    requires buffers { buffers ≡ buffer_count table.now }
-    requires within { n ≤ length code.now }
-    ensures { result ≡ code_ok table.now code.now n n }
-{
-    let mut fine = true;
-    for (k, record) in code[..n].iter().enumerate() {
-        fine = fits_item(table, buffers, n, k, record.item) & fine;
-    }
-    fine
-}
-
-fn fit_counts(buffers: usize, instructions: usize) -> bool
-    ensures { result ≡ counts_ok buffers instructions }
-{
-    buffers <= MOST_BUFFERS && (1 <= instructions && instructions <= MOST_INSTRUCTIONS)
-}
-
-/// Are the buffers' sizes fit, and of the records behind them the first n instructions, the last `ret`, and the rest blank?
-fn fits_rest(table: &[Record], buffers: usize, code: &[Record], n: usize) -> bool
-    requires buffers { buffers ≡ buffer_count table.now }
-    requires within { n ≤ length code.now }
-    requires some { 1 ≤ n }
-    ensures { result ≡ rest_ok table.now code.now n }
-{
-    let framed = fit_heads(table) & are_blank(&code[n..]);
-    let closed = fits_code(table, buffers, code, n) & is_ret(code[n - 1].item);
-    framed & closed
-}
-
-/// Does the table, of that shape, hold a rule?
-pub(crate) fn is_rule(table: &[Record], shape: Shape) -> bool
-    requires buffers { shape.buffers ≡ buffer_count table.now }
-    requires instructions { shape.instructions ≡ code_length table.now }
-    requires inside { shape.buffers + shape.instructions ≤ length table.now }
-    ensures { result ≡ table_ok table.now }
+fn fit_counts(shape: Shape) -> bool
+    ensures { result ≡ counts_ok shape.buffers shape.instructions }
 {
     let Shape {
         buffers,
         instructions,
     } = shape;
-    fit_counts(buffers, instructions) && fits_rest(table, buffers, &table[buffers..], instructions)
+    buffers <= MOST_BUFFERS && (1 <= instructions && instructions <= MOST_INSTRUCTIONS)
+}
+
+/// A table and its counts, whether it holds a rule or not.
+#[derive(Clone, Copy)]
+pub(crate) struct Measured<'a> {
+    pub(crate) table: &'a [Record],
+    pub(crate) shape: Shape,
+    ghost buffers: { shape.buffers ≡ buffer_count table.now },
+    ghost instructions: { shape.instructions ≡ code_length table.now },
+    ghost inside: { shape.buffers + shape.instructions ≤ length table.now },
+}
+
+impl<'a> Measured<'a> {
+    pub(crate) fn of(table: &'a [Record]) -> Measured<'a>
+        ensures { result.table.now ≡ table.now }
+    {
+        let shape = measure(table);
+        Measured { table, shape }
+    }
+
+    /// The records behind the buffers.
+    fn behind(self) -> &'a [Record]
+        ensures value { result.now ≡ behind self.entry.table.now }
+        ensures long { code_length self.entry.table.now ≤ length result.now }
+    {
+        &self.table[self.shape.buffers..]
+    }
+
+    /// Is the instruction one that a text could give as instruction k?
+    fn fits(self, k: usize, instruction: Instruction<usize>) -> bool
+        ensures { result ≡ item_ok self.entry.table.now (code_length self.entry.table.now) k (Instructs instruction) }
+    {
+        let Shape {
+            buffers,
+            instructions,
+        } = self.shape;
+        match instruction {
+            Instruction::Mov { target, source } => target < 8 && fits_operand(source),
+            Instruction::Alu {
+                target,
+                operand,
+                ..
+            } => target < 8 && fits_operand(operand),
+            Instruction::Load {
+                target,
+                buffer,
+                index,
+                ..
+            } => target < 8 && (buffer < buffers && fits_operand(index)),
+            Instruction::Store {
+                buffer,
+                index,
+                source,
+                ..
+            } => {
+                (buffer < buffers && is_writable(self.table, buffer))
+                    && (fits_operand(index) && source < 8)
+            }
+            Instruction::Jump { to } => fits_jump(instructions, k, to),
+            Instruction::Branch {
+                left,
+                right,
+                to,
+                ..
+            } => left < 8 && (fits_operand(right) && fits_jump(instructions, k, to)),
+            Instruction::Ret => true,
+        }
+    }
+
+    /// Is the item an instruction, and one that a text could give there?
+    fn fits_item(self, k: usize, item: Item) -> bool
+        ensures { result ≡ item_ok self.entry.table.now (code_length self.entry.table.now) k item }
+    {
+        match item {
+            Item::Instruction(instruction) => self.fits(k, instruction),
+            Item::Buffer { .. } | Item::Blank => false,
+        }
+    }
+
+    /// Are the records behind the buffers, as far as they are counted, instructions that a text could give?
+    fn fits_code(self) -> bool
+        ensures { result ≡ code_ok self.entry.table.now (behind self.entry.table.now) (code_length self.entry.table.now) (code_length self.entry.table.now) }
+    {
+        let code = &self.behind()[..self.shape.instructions];
+        let mut fine = true;
+        // no `all`: the definition goes from the last instruction to the first
+        for (k, record) in code.iter().enumerate() {
+            fine = self.fits_item(k, record.item) & fine;
+        }
+        fine
+    }
+
+    /// Are the buffers' sizes fit, and of the records behind them so many instructions, the last `ret`, and the rest blank?
+    fn fits_rest(self) -> bool
+        requires { 1 ≤ code_length self.table.now }
+        ensures { result ≡ rest_ok self.entry.table.now (behind self.entry.table.now) (code_length self.entry.table.now) }
+    {
+        let behind = self.behind();
+        let n = self.shape.instructions;
+        let framed = fit_heads(self.table) & are_blank(&behind[n..]);
+        let closed = self.fits_code() & is_ret(behind[n - 1].item);
+        framed & closed
+    }
+
+    /// Does the table hold a rule?
+    pub(crate) fn is_rule(self) -> bool
+        ensures { result ≡ table_ok self.entry.table.now }
+    {
+        fit_counts(self.shape) && self.fits_rest()
+    }
 }

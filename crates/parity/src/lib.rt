@@ -152,6 +152,7 @@ impl Domain for Parity {
         }
     }
 
+    // a match, as in every domain: a table of closures would say the same operators with more words
     fn of(operation: Operation, a: Parity, b: Parity) -> Parity {
         match operation {
             Operation::Add | Operation::Sub | Operation::Xor => a + b,

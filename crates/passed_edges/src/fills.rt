@@ -7,7 +7,7 @@ use std::test::Fail;
 /// Two buffers, the first read-only; the rule stores its first word into the second.
 const TWO: &str = "name size mode\ntab 4 ro\nout 2 rw\ncode\nld8 r0 tab 3\nst16 out 0 r1\nret\n";
 
-/// A fill, and the number of its refusal, or 0.
+/// A fill, and the number of its refusal, or 0. The numbers are what is tested.
 struct Try {
     buffer: usize,
     offset: usize,

@@ -3,7 +3,7 @@
 
 ghost use Rattle.std.specs.Prelude.{◌≡◌, ◌-◌, ◌^◌};
 ghost use Rattle.words.specs.Words.{length_of};
-ghost use Rattle.range.specs.Ranges.{above, below, between, common, conjunction, difference, disjunction, least, most, no_more, on_from, product, reach, reading, single, span, sum, up_to, without, word};
+ghost use Rattle.range.specs.Ranges.{above, below, between, common, conjunction, difference, disjunction, least, most, no_more, on_from, only, product, reach, reading, single, span, sum, up_to, without, word};
 
 use std::ops::{Add, BitAnd, BitOr, Mul, Sub};
 use tristate::Tristate;
@@ -27,6 +27,18 @@ fn filled(word: u64) -> u64
     ensures { result ≡ 2 ^ length_of word - 1 }
 {
     u64::MAX.checked_shr(word.leading_zeros()).unwrap_or(0)
+}
+
+/// One word.
+impl From<u64> for Range {
+    ghost from_gives = { λ w r. r ≡ only w };
+
+    fn from(word: u64) -> Range {
+        Range {
+            low: word,
+            high: word,
+        }
+    }
 }
 
 impl Range {

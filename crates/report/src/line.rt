@@ -6,10 +6,10 @@ use arrayvec::ArrayString;
 use itoa::Buffer;
 
 /// Room for the longest line: five numbers of twenty digits, and a byte behind each.
-const LONGEST: usize = 105;
+pub(crate) const LONGEST_LINE: usize = 105;
 
 /// A line, in memory of a fixed size.
-pub type Line = ArrayString<LONGEST>;
+pub type Line = ArrayString<LONGEST_LINE>;
 
 /// Appends a number, or a dash where there is none.
 fn push_field(line: &mut Line, field: Option<u64>)

@@ -40,7 +40,7 @@ fn has_room<R: Row>(heading: &[u8], rows: &[R], room: usize) -> bool
     true
 }
 
-/// Writes the bytes at a place, and answers the place behind them.
+/// Writes the bytes at a place, and answers the place behind them. The output is lent, so the place stands beside it.
 fn put(output: &mut [u8], at: usize, bytes: &[u8]) -> usize
     requires { at + length bytes.now ≤ length output.old }
     ensures end { result ≡ at + length bytes.now }

@@ -7,6 +7,6 @@ mod record;
 mod shape;
 
 pub use instruction::{Condition, Instruction, Operand};
-pub use limits::{MOST_BUFFERS, MOST_INSTRUCTIONS, MOST_RECORDS};
+pub use limits::{MOST_BUFFERS, MOST_BYTES, MOST_INSTRUCTIONS, MOST_RECORDS};
 pub use record::{Item, Mode, Record};
 pub use shape::Shape;

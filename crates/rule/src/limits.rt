@@ -1,3 +1,6 @@
+/// How many bytes the text of a rule may have.
+pub const MOST_BYTES: usize = 8192;
+
 /// How many buffers a rule may have.
 pub const MOST_BUFFERS: usize = 8;
 

@@ -5,11 +5,11 @@
 use grammar::Refusal;
 use input::fill;
 use reader::read;
-use rule::{MOST_RECORDS, Record, Shape};
+use rule::{MOST_BYTES, MOST_RECORDS, Record, Shape};
 use std::io;
 
 /// One byte more than a text may have: what lies beyond cannot matter.
-const MOST: usize = 8193;
+const MOST: usize = MOST_BYTES + 1;
 
 fn main(rt: HostRuntime) -> io::Result<()> {
     let mut buffer = [0u8; MOST];

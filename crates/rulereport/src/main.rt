@@ -3,11 +3,12 @@
 
 use answer::{LONGEST, answer};
 use input::fill;
+use rule::MOST_BYTES;
 use std::io;
 use std::io::Write;
 
 /// One byte more than a text may have: what lies beyond cannot matter.
-const MOST: usize = 8193;
+const MOST: usize = MOST_BYTES + 1;
 
 fn main(rt: HostRuntime) -> io::Result<()> {
     let mut text = [0u8; MOST];

@@ -21,10 +21,10 @@ impl<D: Domain> Before<'_, D> {
     pub(crate) fn cell(self, register: u8) -> D
         ensures { result ≡ cell D.Domain self.entry.row.now register }
     {
-        match self.row.get(register as usize) {
-            Some(value) => *value,
-            None => D::any(),
-        }
+        self.row
+            .get(usize::from(register))
+            .copied()
+            .unwrap_or_else(|| D::any())
     }
 
     pub(crate) fn amount(self, operand: Operand) -> D
@@ -39,7 +39,7 @@ impl<D: Domain> Before<'_, D> {
     fn unset_register(self, register: u8) -> Option<u8>
         ensures { result ≡ first_unset self.entry.mark (register ∷ []) }
     {
-        match self.mark.set.get(register as usize) {
+        match self.mark.set.get(usize::from(register)) {
             Some(true) => None,
             Some(false) | None => Some(register),
         }

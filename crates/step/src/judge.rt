@@ -19,11 +19,7 @@ pub(crate) fn judge_divisor(facts: Facts) -> Option<Cause>
 pub(crate) fn judge_shift(facts: Facts) -> Option<Cause>
     ensures { result ≡ shift_cause facts }
 {
-    if facts.range.most() > 63 {
-        Some(Cause::Shift)
-    } else {
-        None
-    }
+    (facts.range.most() > 63).then_some(Cause::Shift)
 }
 
 /// An index, by its facts, the width and the buffer's size alone. The sum does not wrap.
@@ -31,7 +27,7 @@ pub(crate) fn judge_access(facts: Facts, width: Width, size: usize) -> Option<Ca
     ensures { result ≡ access_cause facts width size }
 {
     let bytes = width.bytes();
-    if facts.range.most() as u128 + bytes as u128 > size as u128 {
+    if u128::from(facts.range.most()) + bytes as u128 > size as u128 {
         Some(Cause::Beyond)
     } else if facts.bits.known() % bytes as u64 != 0 || facts.bits.unknown() % bytes as u64 != 0 {
         Some(Cause::Askew)

@@ -77,6 +77,8 @@ impl Mnemonic {
     }
 }
 
+// The words stand once, in `word`, and the list is what is searched. A match on the text would say them again.
+
 /// The first of the mnemonics whose word the text is.
 fn first_with(text: &[u8], all: &[Mnemonic]) -> Option<Mnemonic>
     ensures { result ≡ first_with text.now all.now }

@@ -16,6 +16,7 @@ fn open<D: Domain>(rows: &mut [D], marks: &mut [Mark], count: usize)
     ensures rows { rows.new ≡ replicate (8 * count) D.Domain.every ++ drop (8 * count) rows.old }
     ensures marks { marks.new ≡ slice_set (replicate count unreached ++ drop count marks.old) 0 start }
 {
+    // no `fill`: nothing says of a domain that its clones are its copies
     for value in rows[..8 * count].iter_mut() {
         *value = D::any();
     }

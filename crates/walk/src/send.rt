@@ -7,14 +7,14 @@ use domain::Domain;
 use std::array;
 use step::{Change, Jump, Mark, Patch};
 
-// What a patch makes of a value and of a mark's bit: two functions, since each says its own word where the patch is of the
-// register, and a closure for that word would be longer than the match.
+// What a patch makes of a value, and of a mark's bit: two functions, since each says its own word where the patch is of the
+// register.
 
 fn patch_value<D: Domain>(patch: Option<Patch<D>>, register: usize, value: D) -> D
     ensures { result ≡ patch_value patch register value }
 {
     match patch {
-        Some(patch) if register == patch.register as usize => patch.value,
+        Some(patch) if register == usize::from(patch.register) => patch.value,
         _ => value,
     }
 }
@@ -23,7 +23,7 @@ fn patch_set<D: Domain>(patch: Option<Patch<D>>, register: usize, set: bool) -> 
     ensures { result ≡ patch_set patch register set }
 {
     match patch {
-        Some(patch) if register == patch.register as usize => true,
+        Some(patch) if register == usize::from(patch.register) => true,
         _ => set,
     }
 }
@@ -46,10 +46,7 @@ fn changed_set<D: Domain>(change: Change<D>, register: usize, set: bool) -> bool
 fn is_set(mark: Mark, register: usize) -> bool
     ensures { result ≡ is_set mark register }
 {
-    match mark.set.get(register) {
-        Some(set) => *set,
-        None => false,
-    }
+    mark.set.get(register).copied().unwrap_or(false)
 }
 
 fn meet(old: Mark, set: bool, register: usize) -> bool

@@ -7,7 +7,7 @@ use domain::Domain;
 use rule::Record;
 use step::{Mark, Outcome, Report, carry};
 
-/// A report, if there is one, goes behind those that are there.
+/// A report, if there is one, goes behind those that are there. The list is lent, so their count stands beside it.
 fn note(reports: &mut [Report], count: usize, report: Option<Report>) -> usize
     requires { count < length reports.old }
     ensures reports { reports.new ≡ noted_reports report reports.old count }
@@ -79,6 +79,7 @@ pub fn visit<D: Domain>(
     if !mark.reached {
         return tally;
     }
+    // eight values to an instruction, in one list: a lent list of arrays of values would ask of their type how large it is
     let out = carry(table, code.line, code.item, &rows[8 * at..8 * at + 8], mark);
     follow(at, out, rows, marks, reports, tally)
 }

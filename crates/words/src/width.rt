@@ -10,6 +10,8 @@ pub enum Width {
     W64,
 }
 
+// Three tables, each by itself: that a width's bits are eight times its bytes, and its most below two to its bits, is for the
+// definitions to say.
 impl Width {
     pub fn bits(self) -> u32
         ensures { result ≡ bits_of self }

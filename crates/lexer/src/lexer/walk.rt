@@ -36,6 +36,7 @@ impl<'a> Lexer<'a> {
             at: from,
             text: &text[..end],
         };
+        // the line's number, which is told, and no place in a list
         self.number += 1;
         self.at = if end < text.len() { end + 1 } else { end };
         Some(line)

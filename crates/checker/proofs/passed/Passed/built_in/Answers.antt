@@ -22,10 +22,10 @@ some_found p (Some r) h = refl
 
 pub unwrap-rule-requires : goal.unwrap-rule-requires
 unfolding code_ok
-unwrap-rule-requires c = some_found _ c.of.result c.of.ensures
+unwrap-rule-requires c = some_found _ c.of.result c.of.ensures.layout
 
 pub invariant_of-result : goal.invariant_of-result
 unfolding code_ok
 invariant_of-result c =
-    let found = subst (Found _) c.unwrap-rule.ensures c.of.ensures in
+    let found = subst (Found _) c.unwrap-rule.ensures c.of.ensures.layout in
     record { safe = subst NeverStuck (sym found.1) (constant_safe _) }

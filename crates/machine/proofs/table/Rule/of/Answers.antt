@@ -1,0 +1,7 @@
+use Rattle.std.proofs.Common.{sym, ap, ◌∙◌}
+use Rattle.machine.specs.Valid.{table_ok}
+use Rattle.machine.proofs.Validity.{valid-from}
+use Rattle.machine.proofs.table.Rule.of.Goals as goal
+
+pub returns-then-is_rule-clause-valid : goal.returns-then-is_rule-clause-valid
+returns-then-is_rule-clause-valid c = valid-from c.args.table.now (ap table_ok (sym c.of-measured.ensures) ∙ sym c.if-is_rule.ensures)
