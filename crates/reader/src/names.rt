@@ -2,7 +2,7 @@ ghost use Rattle.std.specs.Prelude.{◌≡◌, ◌+◌, ◌<◌, ◌≤◌, [], 
 ghost use Rattle.lexer.specs.Fields.{spelled};
 ghost use Rattle.grammar.specs.Names.{number_of};
 ghost use Rattle.grammar.specs.Reading.{entry};
-ghost use Rattle.reader.specs.Marked.{entries_of, Within};
+ghost use Rattle.reader.specs.Marked.{Within};
 
 use super::source::Source;
 use lexer::Name;
@@ -37,6 +37,8 @@ pub(crate) struct Names<'a, const N: usize> {
 }
 
 impl<'a, const N: usize> Names<'a, N> {
+    ghost use Rattle.reader.specs.Entries.{entries_in};
+
     /// No names, of the text that is read.
     pub(crate) fn new(source: Source<'a>) -> Names<'a, N>
         ensures text { result.text.now ≡ source.entry.lexer.text.now }
@@ -58,7 +60,7 @@ impl<'a, const N: usize> Names<'a, N> {
 
     /// The number of what the name stands for, if it is declared.
     pub(crate) fn get(&self, name: &[u8]) -> Option<usize>
-        ensures { result ≡ number_of (entries_of self.now.text.now (take self.now.count self.now.marks)) name.now }
+        ensures { result ≡ number_of (entries_in self.now) name.now }
     {
         let text = self.text;
         let marks = &self.marks[..self.count];
@@ -79,7 +81,7 @@ impl<'a, const N: usize> Names<'a, N> {
         requires part { name.text.now ≡ take (length name.text.now) (drop name.place.at self.old.text.now) }
         ensures text { self.new.text.now ≡ self.old.text.now }
         ensures count { self.new.count ≡ self.old.count + 1 }
-        ensures entries { entries_of self.new.text.now (take self.new.count self.new.marks) ≡ entries_of self.old.text.now (take self.old.count self.old.marks) ++ entry (spelled name.entry) number ∷ [] }
+        ensures entries { entries_in self.new ≡ entries_in self.old ++ entry (spelled name.entry) number ∷ [] }
     {
         let from = name.place.at;
         let to = from + name.text.len();

@@ -1,6 +1,6 @@
 use Rattle.std.proofs.Common.{◌≡◌, ◌≤◌, min, [], length, take, drop}
 use Rattle.lexer.specs.Lines.{lines_of}
-use Rattle.reader.specs.Marked.{entries_of}
+use Rattle.reader.specs.Entries.{entries_in}
 use Rattle.grammar.specs.Reading.{buffers_from}
 use Rattle.reader.proofs.buffers.read_buffers.Given as goal
 
@@ -9,7 +9,7 @@ invariant-loop-line l = record {
   same : l.names.text.now ≡ l.source.lexer.text.now;
   fits : l.names.count ≤ length l.table;
   text : l.source.lexer.text.now ≡ l.initial.source.lexer.text.now;
-  read : buffers_from (min 8 (length l.table)) (entries_of l.names.text.now (take l.names.count l.names.marks)) (take l.names.count l.table) (lines_of l.source.lexer) ≡ buffers_from (min 8 (length l.initial.table)) [] [] (lines_of l.initial.source.lexer);
+  read : buffers_from (min 8 (length l.table)) (entries_in l.names) (take l.names.count l.table) (lines_of l.source.lexer) ≡ buffers_from (min 8 (length l.initial.table)) [] [] (lines_of l.initial.source.lexer);
   rest : drop l.names.count l.table ≡ drop l.names.count l.initial.table;
 }
 
