@@ -1,5 +1,6 @@
 ghost use Rattle.std.specs.Prelude.{◌≡◌, ◌+◌, ◌-◌, ◌≤◌, length, take, drop, IfOk, Ok, Err, MatchResult};
 ghost use Rattle.lexer.specs.Lines.{lines_of};
+ghost use Rattle.arrayvec.specs.ArrayVec.{array_vec_len};
 ghost use Rattle.reader.specs.Entries.{entries_in};
 ghost use Rattle.grammar.specs.Reading.{code_of};
 
@@ -55,12 +56,12 @@ pub(crate) fn read_rest(
     names: &Names<MOST_BUFFERS>,
     table: &mut [Record],
 ) -> Result<usize, ProgramFault>
-    requires few { names.now.count ≤ length table.old }
+    requires few { array_vec_len names.now.marks ≤ length table.old }
     ensures cases { MatchResult result
-        (λ n. code_of (length table.old - names.now.count) (length source.entry.lexer.text.now) (entries_in names.now) (take names.now.count table.old) (lines_of source.entry.lexer) ≡ Ok (take n (drop names.now.count table.new)))
-        (λ f. code_of (length table.old - names.now.count) (length source.entry.lexer.text.now) (entries_in names.now) (take names.now.count table.old) (lines_of source.entry.lexer) ≡ Err f) }
-    ensures front { take names.now.count table.new ≡ take names.now.count table.old }
-    ensures rest { IfOk result (λ n. (names.now.count + n ≤ length table.old) × (drop (names.now.count + n) table.new ≡ drop (names.now.count + n) table.old)) }
+        (λ n. code_of (length table.old - array_vec_len names.now.marks) (length source.entry.lexer.text.now) (entries_in names.now) (take (array_vec_len names.now.marks) table.old) (lines_of source.entry.lexer) ≡ Ok (take n (drop (array_vec_len names.now.marks) table.new)))
+        (λ f. code_of (length table.old - array_vec_len names.now.marks) (length source.entry.lexer.text.now) (entries_in names.now) (take (array_vec_len names.now.marks) table.old) (lines_of source.entry.lexer) ≡ Err f) }
+    ensures front { take (array_vec_len names.now.marks) table.new ≡ take (array_vec_len names.now.marks) table.old }
+    ensures rest { IfOk result (λ n. (array_vec_len names.now.marks + n ≤ length table.old) × (drop (array_vec_len names.now.marks + n) table.new ≡ drop (array_vec_len names.now.marks + n) table.old)) }
 {
     let buffers = names.len();
     let front = copy_front(table, buffers);
