@@ -57,11 +57,11 @@ pub(crate) fn read_rest(
     table: &mut [Record],
 ) -> Result<usize, ProgramFault>
     requires few { array_vec_len names.now.marks ≤ length table.old }
-    ensures cases { MatchResult result
-        (λ n. code_of (length table.old - array_vec_len names.now.marks) (length source.entry.lexer.text.now) (entries_in names.now) (take (array_vec_len names.now.marks) table.old) (lines_of source.entry.lexer) ≡ Ok (take n (drop (array_vec_len names.now.marks) table.new)))
-        (λ f. code_of (length table.old - array_vec_len names.now.marks) (length source.entry.lexer.text.now) (entries_in names.now) (take (array_vec_len names.now.marks) table.old) (lines_of source.entry.lexer) ≡ Err f) }
-    ensures front { take (array_vec_len names.now.marks) table.new ≡ take (array_vec_len names.now.marks) table.old }
-    ensures rest { IfOk result (λ n. (array_vec_len names.now.marks + n ≤ length table.old) × (drop (array_vec_len names.now.marks + n) table.new ≡ drop (array_vec_len names.now.marks + n) table.old)) }
+    ensures cases { let buffers = array_vec_len names.now.marks in MatchResult result
+        (λ n. code_of (length table.old - buffers) (length source.entry.lexer.text.now) (entries_in names.now) (take buffers table.old) (lines_of source.entry.lexer) ≡ Ok (take n (drop buffers table.new)))
+        (λ f. code_of (length table.old - buffers) (length source.entry.lexer.text.now) (entries_in names.now) (take buffers table.old) (lines_of source.entry.lexer) ≡ Err f) }
+    ensures front { let buffers = array_vec_len names.now.marks in take buffers table.new ≡ take buffers table.old }
+    ensures rest { let buffers = array_vec_len names.now.marks in IfOk result (λ n. (buffers + n ≤ length table.old) × (drop (buffers + n) table.new ≡ drop (buffers + n) table.old)) }
 {
     let buffers = names.len();
     let front = copy_front(table, buffers);

@@ -53,11 +53,9 @@ impl<'a, const N: usize> Names<'a, N> {
     pub(crate) fn get(&self, name: &[u8]) -> Option<usize>
         ensures { result ≡ number_of (entries_in self.now) name.now }
     {
-        let text = self.text;
-        let marks = self.marks.as_slice();
         // No map without a heap, and no `find`: its closure could not know that each mark lies in the text.
-        for mark in marks {
-            if &text[usize::from(mark.from)..usize::from(mark.to)] == name {
+        for mark in self.marks.as_slice() {
+            if &self.text[usize::from(mark.from)..usize::from(mark.to)] == name {
                 return Some(usize::from(mark.number));
             }
         }
