@@ -1,3 +1,4 @@
 pub mod Marked
+pub mod Entries
 pub mod Scopes
 pub mod Passes

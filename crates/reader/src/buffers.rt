@@ -1,6 +1,7 @@
 ghost use Rattle.std.specs.Prelude.{◌≡◌, ◌≤◌, min, [], length, take, drop, IfOk, Some, Ok, Err, MatchResult};
 ghost use Rattle.lexer.specs.Lines.{lines_of};
-ghost use Rattle.reader.specs.Marked.{entries_of};
+ghost use Rattle.arrayvec.specs.ArrayVec.{array_vec_len};
+ghost use Rattle.reader.specs.Entries.{entries_in};
 ghost use Rattle.grammar.specs.Reading.{buffers_from, body_of};
 
 use super::names::Names;
@@ -15,10 +16,10 @@ pub(crate) fn read_buffers<'a>(
     table: &mut [Record],
 ) -> Result<Names<'a, MOST_BUFFERS>, ProgramFault>
     ensures cases { MatchResult result
-        (λ ns. buffers_from (min 8 (length table.old)) [] [] (lines_of source.old.lexer) ≡ Ok (record { names = entries_of ns.text.now (take ns.count ns.marks); records = take ns.count table.new; code = Some (lines_of source.new.lexer) }))
+        (λ ns. buffers_from (min 8 (length table.old)) [] [] (lines_of source.old.lexer) ≡ Ok (record { names = entries_in ns; records = take (array_vec_len ns.marks) table.new; code = Some (lines_of source.new.lexer) }))
         (λ f. body_of (length table.old) (length source.old.lexer.text.now) (lines_of source.old.lexer) ≡ Err f) }
-    ensures few { IfOk result (λ ns. ns.count ≤ length table.old) }
-    ensures rest { IfOk result (λ ns. drop ns.count table.new ≡ drop ns.count table.old) }
+    ensures few { IfOk result (λ ns. array_vec_len ns.marks ≤ length table.old) }
+    ensures rest { IfOk result (λ ns. drop (array_vec_len ns.marks) table.new ≡ drop (array_vec_len ns.marks) table.old) }
     ensures text { source.new.lexer.text.now ≡ source.old.lexer.text.now }
 {
     let mut names = Names::new(*source);

@@ -1,6 +1,7 @@
 ghost use Rattle.std.specs.Prelude.{◌≡◌, ◌+◌, ◌-◌, ◌≤◌, length, take, drop, IfOk, Ok, Err, MatchResult};
 ghost use Rattle.lexer.specs.Lines.{lines_of};
-ghost use Rattle.reader.specs.Marked.{entries_of};
+ghost use Rattle.arrayvec.specs.ArrayVec.{array_vec_len};
+ghost use Rattle.reader.specs.Entries.{entries_in};
 ghost use Rattle.grammar.specs.Reading.{code_of};
 
 use super::link::link_code;
@@ -19,8 +20,8 @@ fn read_code(
     slots: &mut [Record],
 ) -> Result<usize, ProgramFault>
     ensures cases { MatchResult result
-        (λ n. code_of (length slots.old) (length source.entry.lexer.text.now) (entries_of names.now.text.now (take names.now.count names.now.marks)) heads.now (lines_of source.entry.lexer) ≡ Ok (take n slots.new))
-        (λ f. code_of (length slots.old) (length source.entry.lexer.text.now) (entries_of names.now.text.now (take names.now.count names.now.marks)) heads.now (lines_of source.entry.lexer) ≡ Err f) }
+        (λ n. code_of (length slots.old) (length source.entry.lexer.text.now) (entries_in names.now) heads.now (lines_of source.entry.lexer) ≡ Ok (take n slots.new))
+        (λ f. code_of (length slots.old) (length source.entry.lexer.text.now) (entries_in names.now) heads.now (lines_of source.entry.lexer) ≡ Err f) }
     ensures rest { IfOk result (λ n. (n ≤ length slots.old) × (drop n slots.new ≡ drop n slots.old)) }
 {
     let mut labels = Names::new(source);
@@ -55,12 +56,12 @@ pub(crate) fn read_rest(
     names: &Names<MOST_BUFFERS>,
     table: &mut [Record],
 ) -> Result<usize, ProgramFault>
-    requires few { names.now.count ≤ length table.old }
-    ensures cases { MatchResult result
-        (λ n. code_of (length table.old - names.now.count) (length source.entry.lexer.text.now) (entries_of names.now.text.now (take names.now.count names.now.marks)) (take names.now.count table.old) (lines_of source.entry.lexer) ≡ Ok (take n (drop names.now.count table.new)))
-        (λ f. code_of (length table.old - names.now.count) (length source.entry.lexer.text.now) (entries_of names.now.text.now (take names.now.count names.now.marks)) (take names.now.count table.old) (lines_of source.entry.lexer) ≡ Err f) }
-    ensures front { take names.now.count table.new ≡ take names.now.count table.old }
-    ensures rest { IfOk result (λ n. (names.now.count + n ≤ length table.old) × (drop (names.now.count + n) table.new ≡ drop (names.now.count + n) table.old)) }
+    requires few { array_vec_len names.now.marks ≤ length table.old }
+    ensures cases { let buffers = array_vec_len names.now.marks in MatchResult result
+        (λ n. code_of (length table.old - buffers) (length source.entry.lexer.text.now) (entries_in names.now) (take buffers table.old) (lines_of source.entry.lexer) ≡ Ok (take n (drop buffers table.new)))
+        (λ f. code_of (length table.old - buffers) (length source.entry.lexer.text.now) (entries_in names.now) (take buffers table.old) (lines_of source.entry.lexer) ≡ Err f) }
+    ensures front { let buffers = array_vec_len names.now.marks in take buffers table.new ≡ take buffers table.old }
+    ensures rest { let buffers = array_vec_len names.now.marks in IfOk result (λ n. (buffers + n ≤ length table.old) × (drop (buffers + n) table.new ≡ drop (buffers + n) table.old)) }
 {
     let buffers = names.len();
     let front = copy_front(table, buffers);

@@ -1,4 +1,4 @@
-ghost use Rattle.std.specs.Prelude.{◌≡◌, ◌≤◌, [], length, take, drop, Ok, Err, MatchResult};
+ghost use Rattle.std.specs.Prelude.{◌≡◌, ◌≤◌, [], length, take, drop, IfOk, Ok, Err, MatchResult};
 ghost use Rattle.lexer.specs.Lines.{lines_of};
 ghost use Rattle.reader.specs.Passes.{instructions_in};
 ghost use Rattle.grammar.specs.Reading.{link_from};
@@ -20,11 +20,9 @@ pub(crate) fn link_code(
     ensures cases { MatchResult result
         (λ n. link_from (scope_in scope.entry) [] (lines_of lexer.entry) ≡ Ok (take n slots.new))
         (λ f. link_from (scope_in scope.entry) [] (lines_of lexer.entry) ≡ Err f) }
-    ensures rest { MatchResult result
-        (λ n. (n ≤ length slots.old) × (drop n slots.new ≡ drop n slots.old))
-        (λ _. Unit {0}) }
+    ensures rest { IfOk result (λ n. (n ≤ length slots.old) × (drop n slots.new ≡ drop n slots.old)) }
 {
-    // A slot is taken for an instruction alone, so to count neither lines nor slots in the loop's head would do.
+    // A slot is taken only where a line holds an instruction, so the count is of slots and not of lines.
     let mut count = 0;
     while let Some(line) = lexer.next_filled() {
         if let Statement::Instruction(instruction) = parse_statement(line)? {

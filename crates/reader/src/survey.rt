@@ -1,6 +1,7 @@
-ghost use Rattle.std.specs.Prelude.{◌≡◌, ◌≤◌, min, false, [], length, take, IfOk, Ok, Err, MatchResult};
+ghost use Rattle.std.specs.Prelude.{◌≡◌, ◌≤◌, min, false, [], IfOk, Ok, Err, MatchResult};
 ghost use Rattle.lexer.specs.Lines.{lines_of};
-ghost use Rattle.reader.specs.Marked.{entries_of};
+ghost use Rattle.arrayvec.specs.ArrayVec.{array_vec_len};
+ghost use Rattle.reader.specs.Entries.{entries_in};
 ghost use Rattle.grammar.specs.Reading.{survey_from};
 
 use super::names::Names;
@@ -27,9 +28,9 @@ pub(crate) fn survey_code(
     room: usize,
 ) -> Result<Survey, ProgramFault>
     requires same { lexer.text.now ≡ labels.old.text.now }
-    requires none { labels.old.count ≡ 0 }
+    requires none { array_vec_len labels.old.marks ≡ 0 }
     ensures cases { MatchResult result
-        (λ s. survey_from (min 96 room) [] 0 false (lines_of lexer.entry) ≡ Ok (record { labels = entries_of labels.new.text.now (take labels.new.count labels.new.marks); count = s.instructions; closed = s.closed }))
+        (λ s. survey_from (min 96 room) [] 0 false (lines_of lexer.entry) ≡ Ok (record { labels = entries_in labels.new; count = s.instructions; closed = s.closed }))
         (λ f. survey_from (min 96 room) [] 0 false (lines_of lexer.entry) ≡ Err f) }
     ensures within { IfOk result (λ s. s.instructions ≤ room) }
 {
