@@ -39,17 +39,6 @@ fn read_code(
     Ok(count)
 }
 
-/// The buffers at the front of a table.
-fn copy_front(table: &[Record], count: usize) -> [Record; MOST_BUFFERS]
-    requires { (count ≤ 8) × (count ≤ length table.now) }
-    ensures value { take count result ≡ take count table.now }
-    ensures long { length result ≡ 8 }
-{
-    let mut front = [Record::BLANK; MOST_BUFFERS];
-    front[..count].copy_from_slice(&table[..count]);
-    front
-}
-
 /// Writes the instructions after the line `code` to the table, after its buffers, of which each has its name.
 pub(crate) fn read_rest(
     source: Source,
@@ -63,7 +52,6 @@ pub(crate) fn read_rest(
     ensures front { let buffers = array_vec_len names.now.marks in take buffers table.new ≡ take buffers table.old }
     ensures rest { let buffers = array_vec_len names.now.marks in IfOk result (λ n. (buffers + n ≤ length table.old) × (drop (buffers + n) table.new ≡ drop (buffers + n) table.old)) }
 {
-    let buffers = names.len();
-    let front = copy_front(table, buffers);
-    read_code(source, names, &front[..buffers], &mut table[buffers..])
+    let (front, slots) = table.split_at_mut(names.len());
+    read_code(source, names, front, slots)
 }
