@@ -6,10 +6,8 @@ ghost use Rattle.grammar.specs.Reading.{body_of, program_of, clean, reading};
 
 use grammar::ProgramFault;
 use lexer::{Lexer, Place, check_text};
+use rule::MOST_BYTES;
 use syntax::{LineFault, is_heading};
-
-/// How many bytes a text may have.
-const MOST_BYTES: usize = 8192;
 
 /// A text that is short enough to be read, and what is left of it.
 #[derive(Clone, Copy)]
