@@ -1,6 +1,5 @@
 -- After any list of fills and runs each byte of a read-only buffer is the book's.
-use Rattle.std.proofs.Common.{◌≡◌, ℕ, ◌+◌, ◌<◌, ◌≤◌, Bool, true, false, cond, ◌&&◌, eqb, List, [], ◌∷◌, length, get_or, drop, sym, refl, ap, ◌∙◌, subst, ⊎_elim, arith}
-use Rattle.std.proofs.lemmas.List.{at_drop_more}
+use Rattle.std.proofs.Common.{◌≡◌, ℕ, ◌+◌, ◌≤◌, Bool, true, false, cond, eqb, List, [], ◌∷◌, length, get_or, sym, refl, ap, ◌∙◌, subst, ⊎_elim, arith}
 use Rattle.std.proofs.lemmas.Bool.{cases_Bool, cases_lt, cond-true, cond-false, eqb-true}
 use Rattle.rule.specs.declared.record.Record.{Record}
 use Rattle.machine.specs.Memory.{start_of, total_size, written, ReadOnlyAt}
@@ -12,31 +11,8 @@ use Rattle.engine.proofs.Untouched.{left-kept}
 use Rattle.engine.proofs.Within.{lies}
 use Rattle.checker.specs.declared.call.Call.{Call}
 use Rattle.checker.specs.declared.call.Call.TheVariants.{Fill, Run}
-use Rattle.checker.specs.Calls.{after_call, after_calls, refused_one, refused_of, booked, AsBooked}
+use Rattle.checker.specs.Calls.{after_calls, booked, AsBooked}
 use Rattle.checker.specs.Memories.{is_sized, filled, run_memory}
-
--- ── one call more ──
-
-one-most : (b : Bool) → cond b 0 1 ≤ 1
-one-most true = omega arith
-one-most false = omega arith
-
-refused-most : (p : List Record) (c : Call) (m : List ℕ) → refused_one p c m ≤ 1
-refused-most p (Fill b offset bytes) m = one-most (is_sized p m && is_within p b offset (length bytes.now))
-refused-most p (Run words) m = one-most (is_sized p m)
-
--- the call at i leaves the memory o, and n refused
-pub record Called (p : List Record) (cs : List Call) (i : ℕ) (m o : List ℕ) (n : ℕ) : Type 0 where
-  pub memory : after_calls p (drop (i + 1) cs) o ≡ after_calls p (drop i cs) m
-  pub refused : n + refused_of p (drop (i + 1) cs) o ≡ refused_of p (drop i cs) m
-  pub most : n ≤ 1
-
-pub called : (p : List Record) (cs : List Call) (i : ℕ) (c : Call) (m o : List ℕ) (n : ℕ) → i < length cs → o ≡ after_call p (get_or cs i c) m → n ≡ refused_one p (get_or cs i c) m → Called p cs i m o n
-called p cs i c m o n h left refused =
-    let more = at_drop_more (λ xs. refused_of p xs m) cs i c h in
-    let rest = ap (refused_of p (drop (i + 1) cs)) left in
-    let few = refused-most p (get_or cs i c) m in
-    record { memory = ap (after_calls p (drop (i + 1) cs)) left ∙ sym (at_drop_more (λ xs. after_calls p xs m) cs i c h); refused = omega arith; most = omega arith }
 
 -- ── the memory and the book ──
 

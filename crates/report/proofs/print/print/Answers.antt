@@ -1,5 +1,4 @@
-use Rattle.std.proofs.Common.{◌≡◌, ℕ, ◌+◌, true, leb, List, [], ◌++◌, length, take, drop, Ok, sym, refl, ap, ◌∙◌, append_assoc, append-nil, arith, length-append}
-use borrow.Author.Tests.{true-leb}
+use Rattle.std.proofs.Common.{◌≡◌, ℕ, ◌+◌, true, leb, List, [], ◌++◌, length, take, drop, Ok, sym, ap, ◌∙◌, append_assoc, append-nil, arith, length-append}
 use Rattle.std.proofs.lemmas.List.{at_drop_all, drop-drop, take-append-drop}
 use Rattle.std.proofs.lemmas.Bool.{cond-true}
 use Rattle.report.specs.Lines.{rows_text}
@@ -24,17 +23,6 @@ all at from output first start heading lines none e here begun back room =
     let split = take-append-drop at output in
     let filled : output ≡ (heading ++ lines) ++ drop (length (heading ++ lines)) start = cc in
     (ap Ok whole ∙ sym (cond-true _ _ _ (sym room)), filled ∙ sym (cond-true _ _ _ (sym room)))
-
-pub put-at-requires : goal.put-at-requires
-put-at-requires g c = omega (arith, simp length-append at (true-leb _ _ c.if-not-has_room.ensures))
-
-pub loop-row-init : goal.loop-row-init
-loop-row-init g c = record { front = ap (λ front. front ++ rows_text g.R.Row.fields c.args.rows.now) c.put-at.ensures.front; back = refl; total = simp length-append (omega (arith, c.put-at.ensures.end)) }
-
-pub put-at-requires-in-loop-row : goal.put-at-requires-in-loop-row
-put-at-requires-in-loop-row g c =
-    let more = rows_more g.R.Row.fields c.args.rows.now c.loop-row.row-index (omega arith) c.row-item.is (c.as_bytes.ensures.value ∙ c.as_str.ensures.value) c.line-line.ensures in
-    omega (arith, c.loop-row.invariant.total, true-leb _ _ c.if-not-has_room.ensures, simp length-append at (ap length more))
 
 pub loop-row-preserved : goal.loop-row-preserved
 loop-row-preserved g c =
