@@ -1,5 +1,6 @@
-ghost use Rattle.std.specs.Prelude.{◌≡◌, ◌*◌, ◌≤◌, ◌&&◌, ◌||◌, MatchResult, nat_le};
+ghost use Rattle.std.specs.Prelude.{◌≡◌, ◌*◌, ◌≤◌, ◌&&◌, ◌||◌, true, MatchResult, nat_le};
 ghost use Rattle.std.specs.Option.{is_some};
+ghost use Rattle.machine.specs.Valid.{table_ok};
 ghost use Rattle.walk.specs.Walk.{sheet};
 ghost use Rattle.checker.specs.Verdicts.{Checked, Refused, accepts};
 
@@ -26,6 +27,7 @@ fn judge<D: Domain>(
     marks: &mut [Mark],
     reports: &mut [Report],
 ) -> Result<Tally<D>, CheckRefusal>
+    requires { table_ok rule.table.now ≡ true }
     ensures { MatchResult result
         (λ t. Checked D.Domain rule.entry.table.now rows.old marks.old reports.old (sheet rows.new marks.new reports.new t.count t.answer))
         (λ e. Refused rule.entry.table.now rows.old rows.new marks.old marks.new reports.old reports.new e) }

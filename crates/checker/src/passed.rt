@@ -1,4 +1,6 @@
+ghost use Rattle.std.specs.Prelude.{◌≡◌, true};
 ghost use Rattle.machine.specs.Machine.{NeverStuck};
+ghost use Rattle.machine.specs.Valid.{table_ok};
 
 use machine::Rule;
 
@@ -6,5 +8,6 @@ use machine::Rule;
 #[derive(Drop)]
 pub struct Passed<'a> {
     pub(crate) rule: Rule<'a>,
+    ghost valid: { table_ok rule.table.now ≡ true },
     ghost safe: { NeverStuck rule.table.now },
 }

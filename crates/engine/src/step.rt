@@ -1,7 +1,9 @@
-ghost use Rattle.std.specs.Prelude.{◌≡◌, ℕ, ◌+◌, ◌≤◌, List, length, IfSome};
+ghost use Rattle.std.specs.Prelude.{◌≡◌, ℕ, ◌+◌, ◌<◌, ◌≤◌, List, length, IfSome};
 ghost use Rattle.words.specs.Widths.{bytes_of};
 ghost use Rattle.rule.specs.declared.record.Item.TheVariants.{Instruction as Instructs};
 ghost use Rattle.machine.specs.Memory.{total_size};
+ghost use Rattle.machine.specs.Tables.{buffer_count};
+ghost use Rattle.engine.specs.Reach.{IsReachable};
 ghost use Rattle.engine.specs.Steps.{fetched, result_in, is_related, alu_of, place_in, load_of, stores, branches, stepped, puts, step_of};
 
 use super::bytes;
@@ -45,6 +47,7 @@ fn holds(condition: Condition, x: u64, y: u64) -> bool
 /// The place in the memory of the bytes at an index of a buffer, where they lie in it and the index is a multiple of
 /// their number.
 fn aligned(rule: Rule<'_>, buffer: usize, width: Width, index: u64) -> Option<usize>
+    requires { buffer < buffer_count rule.table.now }
     ensures value { result ≡ place_in rule.entry.table.now buffer width index }
     ensures inside { IfSome result (λ at. at + bytes_of width ≤ total_size rule.entry.table.now) }
 {
@@ -89,7 +92,8 @@ fn load(
     buffer: usize,
     index: Operand,
 ) -> Option<Next>
-    requires { length memory.now ≡ total_size rule.table.now }
+    requires there { buffer < buffer_count rule.table.now }
+    requires memory { length memory.now ≡ total_size rule.table.now }
     ensures { (k : ℕ) → stepped k result registers.new.words memory.now ≡ puts k target registers.old.words memory.now (load_of rule.entry.table.now registers.old.words memory.now width buffer index) }
 {
     let index = registers.value(index)?;
@@ -108,7 +112,8 @@ fn store(
     index: Operand,
     source: u8,
 ) -> Option<Next>
-    requires { length memory.old ≡ total_size rule.table.now }
+    requires there { buffer < buffer_count rule.table.now }
+    requires memory { length memory.old ≡ total_size rule.table.now }
     ensures { (k : ℕ) → stepped k result registers.now.words memory.new ≡ stores rule.entry.table.now k width buffer index source registers.now.words memory.old }
 {
     let index = registers.value(index)?;
@@ -146,7 +151,8 @@ pub(crate) fn carry_out(
     registers: &mut Registers,
     memory: &mut [u8],
 ) -> Option<Next>
-    requires { length memory.old ≡ total_size rule.table.now }
+    requires there { IsReachable rule.table.now instruction }
+    requires memory { length memory.old ≡ total_size rule.table.now }
     ensures { (k : ℕ) → stepped k result registers.new.words memory.new ≡ step_of rule.entry.table.now k (Instructs instruction) registers.old.words memory.old }
 {
     match instruction {

@@ -35,12 +35,20 @@ pub(crate) fn is_letter(b: u8) -> bool
 pub(crate) fn is_name_byte(b: u8) -> bool
     ensures { result ≡ name_byte b }
 {
-    matches!(Class::from(char::from(b)), Class::Letter | Class::Digit) || b == b'_'
+    match Class::from(char::from(b)) {
+        Class::Letter | Class::Digit => true,
+        Class::Mark => b == b'_',
+        Class::Space | Class::Foreign => false,
+    }
 }
 
 /// May the byte stand in a field, that is, does it neither end one nor begin a comment?
 pub(crate) fn is_field_byte(b: u8) -> bool
     ensures { result ≡ field_byte b }
 {
-    !matches!(b, b' ' | b'#')
+    match Class::from(char::from(b)) {
+        Class::Space => false,
+        Class::Mark => b != b'#',
+        Class::Letter | Class::Digit | Class::Foreign => true,
+    }
 }

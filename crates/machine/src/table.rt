@@ -1,18 +1,19 @@
 ghost use Rattle.std.specs.Prelude.{◌≡◌, ◌*◌, ◌≤◌, true, take, IfSome, MatchOption, Some, None};
 ghost use Rattle.machine.specs.Memory.{start_of, total_size};
 ghost use Rattle.machine.specs.Tables.{behind, buffer_count, code_length};
+ghost use Rattle.machine.specs.Props.{valid_props};
 ghost use Rattle.machine.specs.Valid.{layout_of, table_ok, Valid};
 
 use super::memory::sizes_of;
 use super::valid::Measured;
 use rule::{Record, Shape};
 
-/// A table that holds a rule: one that some text could give, but for the numbers of its lines.
+/// A table that holds a rule: in front of it stand records that some text could give, but for the numbers of its lines.
 #[derive(Clone, Copy)]
 pub struct Rule<'a> {
     table: &'a [Record],
     shape: Shape,
-    ghost valid: { table_ok table.now ≡ true },
+    ghost valid: { Valid table.now } by { Prim.hlevel valid_props },
     ghost buffers: { shape.buffers ≡ buffer_count table.now },
     ghost instructions: { shape.instructions ≡ code_length table.now },
 }
@@ -22,6 +23,7 @@ impl<'a> Rule<'a> {
     pub fn of(table: &'a [Record]) -> Option<Rule<'a>>
         ensures layout { MatchOption result (layout_of table.now ≡ None) (λ r. (layout_of table.now ≡ Some r.shape) × (r.table.now ≡ table.now)) }
         ensures valid { IfSome result (λ _. Valid table.now) }
+        ensures whole { IfSome result (λ _. table_ok table.now ≡ true) }
     {
         let measured = Measured::of(table);
         if measured.is_rule() {
@@ -32,7 +34,19 @@ impl<'a> Rule<'a> {
         }
     }
 
-    /// The table, with the blank records after the rule.
+    /// The rule in a table that is known to hold one, with its counts. Public only because crates divide the machine: the
+    /// table is valid, and the counts are its own. A valid table may have any records behind its first blank.
+    pub fn new(table: &'a [Record], shape: Shape) -> Rule<'a>
+        requires valid { Valid table.now }
+        requires buffers { shape.buffers ≡ buffer_count table.now }
+        requires instructions { shape.instructions ≡ code_length table.now }
+        ensures table { result.table.now ≡ table.now }
+        ensures shape { result.shape ≡ shape }
+    {
+        Rule { table, shape }
+    }
+
+    /// The table, with the records behind the rule.
     pub fn table(self) -> &'a [Record]
         ensures { result.now ≡ self.entry.table.now }
     {

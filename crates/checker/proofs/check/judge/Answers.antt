@@ -3,7 +3,6 @@ use Rattle.std.proofs.lemmas.Bool.{and_parts, leb-true}
 use Rattle.domain.specs.Lawful.{Lawful, lawful}
 use Rattle.rule.specs.declared.shape.Shape.{Shape}
 use Rattle.machine.specs.Tables.{code_length}
-use Rattle.machine.proofs.Validity.{valid-from}
 use Rattle.walk.specs.Exact.{Exact}
 use Rattle.walk.specs.Sound.{Sound}
 use Rattle.walk.specs.Walk.{Sheet, sheet, checked}
@@ -24,7 +23,7 @@ returns g c =
     let rows = c.args.rows.now in
     let marks = c.args.marks.now in
     let reports = c.args.reports.now in
-    let valid = valid-from p c.args.rule.valid in
+    let valid = c.args.rule.valid in
     let count = ap (λ (x : Shape). x.instructions) c.shape.ensures ∙ c.args.rule.instructions in
     let left = sheet c.sweep.new.rows c.sweep.new.marks c.sweep.new.reports c.sweep.result.count c.sweep.result.answer in
     let value : left ≡ checked d p rows marks reports = c.sweep.ensures in
@@ -33,7 +32,7 @@ returns g c =
     let parts = and_parts (leb (8 * code_length p) (length rows)) _ room in
     let rest = and_parts (leb (code_length p) (length marks)) (leb (code_length p) (length reports)) parts.1 in
     record {
-      rule = c.args.rule.valid;
+      rule = c.requires;
       room = room;
       value = value;
       exact = subst (Exact d p rows marks reports) (sym value) (exact d p valid rows marks reports (leb-true _ _ rest.1));

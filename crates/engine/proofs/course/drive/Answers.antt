@@ -1,9 +1,8 @@
 use Rattle.std.proofs.Common.{◌≡◌, ◌-◌, length, Some, sym, ap, ◌∙◌, arith}
 use Rattle.machine.specs.Tables.{code_length}
-use Rattle.machine.proofs.Validity.{valid-from}
 use Rattle.engine.specs.Steps.{led, ended, run_from}
 use Rattle.engine.specs.Steps.Leads.{Go}
-use Rattle.engine.proofs.Driving.{code-long, stops, sticks, goes-out, goes_on}
+use Rattle.engine.proofs.Driving.{code-long, reaches_here, stops, sticks, goes-out, goes_on}
 use Rattle.engine.proofs.course.drive.Goals as goal
 use Rattle.engine.proofs.course.drive.Goals.{in-Onward, in-Jump}
 
@@ -12,6 +11,11 @@ returns-in_default c =
     let s = c.loop-steps in
     sym (stops c.args.rule.table.now _ c.code-code.ensures _ s.at s.registers.words s.memory c.loop-steps-test.true s.invariant.inside c.in_default.not-Instruction)
     ∙ s.invariant.whole
+
+pub carry_out-requires-clause-there : goal.carry_out-requires-clause-there
+carry_out-requires-clause-there c =
+    let s = c.loop-steps in
+    reaches_here c.args.rule.table.now _ c.code-code.ensures _ s.at s.registers.words s.memory c.loop-steps-test.true s.invariant.inside c.args.rule.valid _ c.in-Instruction.is
 
 pub returns-in_err-carry_out : goal.returns-in_err-carry_out
 returns-in_err-carry_out c =
@@ -35,7 +39,7 @@ loop-steps-preserved c =
       | in-Onward w ↦ ap (led s.at) w.in-Onward.is ∙ ap Go (sym w.at-is)
       | in-Jump w ↦ ap (led s.at) w.in-Jump.is ∙ ap Go (sym w.at-is)
     ] in
-    let on = goes_on p _ c.code-code.ensures _ s.at s.registers.words s.memory c.loop-steps-test.true s.invariant.inside _ c.in-Instruction.is _ c.carry_out.new.registers.words c.carry_out.new.memory (c.carry_out.ensures s.at) c.in_ok-carry_out.field-0 j (valid-from p c.args.rule.valid) s.registers.eight c.in_ok-carry_out.was to in
+    let on = goes_on p _ c.code-code.ensures _ s.at s.registers.words s.memory c.loop-steps-test.true s.invariant.inside _ c.in-Instruction.is _ c.carry_out.new.registers.words c.carry_out.new.memory (c.carry_out.ensures s.at) c.in_ok-carry_out.field-0 j c.args.rule.valid s.registers.eight c.in_ok-carry_out.was to in
     record { whole = sym on.rest ∙ s.invariant.whole; inside = on.within }
 
 pub returns : goal.returns

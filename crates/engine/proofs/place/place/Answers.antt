@@ -3,15 +3,13 @@ use Rattle.std.proofs.lemmas.Bool.{cond-false}
 use Rattle.rule.specs.declared.shape.Shape.{Shape}
 use Rattle.machine.specs.Tables.{buffer_count, size_at}
 use Rattle.machine.proofs.Sizes.{inside-memory, small-buffer}
-use Rattle.machine.proofs.Validity.{valid-from}
 use Rattle.engine.proofs.Within.{far_beyond}
 use Rattle.engine.proofs.place.place.Goals as goal
 
 pub returns-in_err-end-clause-value : goal.returns-in_err-end-clause-value
 returns-in_err-end-clause-value c =
     let p = c.args.rule.table.now in
-    let valid = valid-from p c.args.rule.valid in
-    c.from_residual.ensures ∙ sym (cond-false _ _ _ (sym (far_beyond p c.args.buffer c.args.offset c.args.count valid (omega arith))))
+    c.from_residual.ensures ∙ sym (cond-false _ _ _ (sym (far_beyond p c.args.buffer c.args.offset c.args.count c.args.rule.valid (omega arith))))
 
 -- there is such a buffer
 there : (c : goal.After-start_of) → c.args.buffer < buffer_count c.args.rule.table.now
@@ -24,9 +22,8 @@ fits c = let sum = c.in_ok-end.ensures in omega (arith, sum.1, c.if-end-size_of.
 pub overflow_add-result : goal.overflow_add-result
 overflow_add-result c =
     let p = c.args.rule.table.now in
-    let valid = valid-from p c.args.rule.valid in
-    let small = small-buffer p c.args.buffer valid (there c) in
-    let few = valid.few_buffers in
+    let small = small-buffer p c.args.buffer c.args.rule.valid (there c) in
+    let few = c.args.rule.valid.few_buffers in
     omega (arith, there c, fits c, c.start_of.ensures.bound)
 
 pub returns-then-end-size_of-clause-inside : goal.returns-then-end-size_of-clause-inside

@@ -11,4 +11,4 @@ returns-then-index-count-eq0-clause-value c =
     let w = c.args.width in
     let i = c.args.index in
     let even : i % bytes_of w ≡ 0 = ap (λ n. i % n) (sym c.bytes-count.ensures) ∙ c.if-index-count-eq0.true in
-    c.place.ensures.value ∙ ap (placed p b i) c.bytes-count.ensures ∙ aligned-place p b w i c.args.rule.valid even
+    c.place.ensures.value ∙ ap (placed p b i) c.bytes-count.ensures ∙ aligned-place p b w i c.requires even

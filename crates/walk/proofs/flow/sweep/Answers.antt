@@ -4,7 +4,6 @@ use Rattle.rule.specs.Records.{blank}
 use Rattle.machine.specs.Tables.{behind, code_length, code_at}
 use Rattle.machine.specs.Valid.{Valid}
 use Rattle.machine.proofs.Places.{code_long, code_line}
-use Rattle.machine.proofs.Validity.{valid-from}
 use Rattle.domain.specs.declared.domain.Domain.{Ghosts}
 use Rattle.step.specs.declared.mark.Mark.{Mark}
 use Rattle.walk.specs.Walk.{Ways, Sheet, mark_at, row_at, outcome_at, visited, walked}
@@ -42,7 +41,7 @@ visit-tally-requires g c =
     let rows = c.loop-at.rows in
     let marks = c.loop-at.marks in
     let same = long p c.table-table.result.now c.code-code.result.now c.table-table.ensures c.code-code.ensures in
-    let ways = leads p c.table-table.result.now c.code-code.result.now c.table-table.ensures c.code-code.ensures g.D.Domain k c.loop-at-test.true (valid-from p c.args.rule.valid) rows marks in
+    let ways = leads p c.table-table.result.now c.code-code.result.now c.table-table.ensures c.code-code.ensures g.D.Domain k c.loop-at-test.true c.args.rule.valid rows marks in
     let long_rows : 8 * code_length p ≤ length rows = omega (arith, c.loop-at.auto.rows, c.open.auto.rows, c.requires.rows) in
     let long_marks : code_length p ≤ length marks = omega (arith, c.loop-at.auto.marks, c.open.auto.marks, c.requires.marks) in
     let long_reports : code_length p ≤ length c.loop-at.reports = omega (arith, c.loop-at.auto.reports, c.requires.reports) in

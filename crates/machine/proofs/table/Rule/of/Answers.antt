@@ -3,5 +3,5 @@ use Rattle.machine.specs.Valid.{table_ok}
 use Rattle.machine.proofs.Validity.{valid-from}
 use Rattle.machine.proofs.table.Rule.of.Goals as goal
 
-pub returns-then-is_rule-clause-valid : goal.returns-then-is_rule-clause-valid
-returns-then-is_rule-clause-valid c = valid-from c.args.table.now (ap table_ok (sym c.of-measured.ensures) ∙ sym c.if-is_rule.ensures)
+pub invariant_of-result-clause-valid : goal.invariant_of-result-clause-valid
+invariant_of-result-clause-valid c = valid-from c.args.table.now (ap table_ok (sym c.of-measured.ensures) ∙ sym c.if-is_rule.ensures)
