@@ -13,7 +13,7 @@ use Rattle.machine.specs.Valid.{Valid, ValidItem}
 use Rattle.machine.proofs.Moving.{forward}
 use Rattle.engine.specs.declared.next.Next.{Next}
 use Rattle.engine.specs.declared.next.Next.TheVariants as next
-use Rattle.engine.specs.Reach.{IsReachable}
+use Rattle.engine.specs.Buffers.{HasBuffer}
 use Rattle.engine.specs.Steps.{and_then, RegisterList, register_of, Step, step, step_of, led, stepped, onward, run_from}
 use Rattle.engine.specs.Steps.Leads.{Go}
 use Rattle.engine.proofs.Moves.{step_does}
@@ -31,14 +31,14 @@ no-step p k (Instruction x) r m h = absurd (h x refl)
 no-step p k (Buffer size mode) r m h = refl
 no-step p k Blank r m h = refl
 
-reaches : (p : List Record) (n k : ℕ) (i : Instructed ℕ) → ValidItem p n k (Instruction i) → IsReachable p i
-reaches p n k (Mov t s) v = tt
-reaches p n k (Alu op t s) v = tt
-reaches p n k (Load w t b s) v = v.1
-reaches p n k (Store w b s t) v = v.0
-reaches p n k (Jump to) v = tt
-reaches p n k (Branch c l s to) v = tt
-reaches p n k Ret v = tt
+has_buffer : (p : List Record) (n k : ℕ) (i : Instructed ℕ) → ValidItem p n k (Instruction i) → HasBuffer p i
+has_buffer p n k (Mov t s) v = tt
+has_buffer p n k (Alu op t s) v = tt
+has_buffer p n k (Load w t b s) v = v.1
+has_buffer p n k (Store w b s t) v = v.0
+has_buffer p n k (Jump to) v = tt
+has_buffer p n k (Branch c l s to) v = tt
+has_buffer p n k Ret v = tt
 
 -- after n of N steps one more is taken
 run-next : (p : List Record) (N n k : ℕ) (r : RegisterList) (m : List ℕ) (o : Option Step) → n < N → step_of p k (item_at p k) r m ≡ o → run_from p (N - n) n k r m ≡ and_then o (λ s. onward (run_from p (N - (n + 1))) n s.next s.registers s.memory)
@@ -55,9 +55,9 @@ module _ (p cs : List Record) (code : cs ≡ code_of p) (n k : ℕ) (r : Registe
   read : (get_or cs k blank).item ≡ item_at p k
   read = ap (λ (xs : List Record). (get_or xs k blank).item) code ∙ ap (λ (x : Record). x.item) (get_or-take (code_length p) (behind p) k blank inside)
 
-  -- the buffer that an instruction of a valid rule reaches is one of the rule's
-  pub reaches_here : Valid p → (i : Instructed ℕ) → (get_or cs k blank).item ≡ Instruction i → IsReachable p i
-  reaches_here valid i is = reaches p (code_length p) k i (subst (ValidItem p (code_length p) k) (sym read ∙ is) (valid.items k inside))
+  -- the buffer that an instruction of a valid rule names is one of the rule's
+  pub has_buffer_here : Valid p → (i : Instructed ℕ) → (get_or cs k blank).item ≡ Instruction i → HasBuffer p i
+  has_buffer_here valid i is = has_buffer p (code_length p) k i (subst (ValidItem p (code_length p) k) (sym read ∙ is) (valid.items k inside))
 
   -- a run goes no further where there is no instruction
   pub stops : ((x : Instructed ℕ) → (get_or cs k blank).item ≡ Instruction x → ⊥) → run_from p (code_length p - n) n k r m ≡ None

@@ -3,7 +3,7 @@ ghost use Rattle.words.specs.Widths.{bytes_of};
 ghost use Rattle.rule.specs.declared.record.Item.TheVariants.{Instruction as Instructs};
 ghost use Rattle.machine.specs.Memory.{total_size};
 ghost use Rattle.machine.specs.Tables.{buffer_count};
-ghost use Rattle.engine.specs.Reach.{IsReachable};
+ghost use Rattle.engine.specs.Buffers.{HasBuffer};
 ghost use Rattle.engine.specs.Steps.{fetched, result_in, is_related, alu_of, place_in, load_of, stores, branches, stepped, puts, step_of};
 
 use super::bytes;
@@ -151,7 +151,7 @@ pub(crate) fn carry_out(
     registers: &mut Registers,
     memory: &mut [u8],
 ) -> Option<Next>
-    requires there { IsReachable rule.table.now instruction }
+    requires there { HasBuffer rule.table.now instruction }
     requires memory { length memory.old ≡ total_size rule.table.now }
     ensures { (k : ℕ) → stepped k result registers.new.words memory.new ≡ step_of rule.entry.table.now k (Instructs instruction) registers.old.words memory.old }
 {

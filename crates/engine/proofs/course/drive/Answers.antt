@@ -2,7 +2,7 @@ use Rattle.std.proofs.Common.{◌≡◌, ◌-◌, length, Some, sym, ap, ◌∙�
 use Rattle.machine.specs.Tables.{code_length}
 use Rattle.engine.specs.Steps.{led, ended, run_from}
 use Rattle.engine.specs.Steps.Leads.{Go}
-use Rattle.engine.proofs.Driving.{code-long, reaches_here, stops, sticks, goes-out, goes_on}
+use Rattle.engine.proofs.Driving.{code-long, has_buffer_here, stops, sticks, goes-out, goes_on}
 use Rattle.engine.proofs.course.drive.Goals as goal
 use Rattle.engine.proofs.course.drive.Goals.{in-Onward, in-Jump}
 
@@ -15,7 +15,7 @@ returns-in_default c =
 pub carry_out-requires-clause-there : goal.carry_out-requires-clause-there
 carry_out-requires-clause-there c =
     let s = c.loop-steps in
-    reaches_here c.args.rule.table.now _ c.code-code.ensures _ s.at s.registers.words s.memory c.loop-steps-test.true s.invariant.inside c.args.rule.valid _ c.in-Instruction.is
+    has_buffer_here c.args.rule.table.now _ c.code-code.ensures _ s.at s.registers.words s.memory c.loop-steps-test.true s.invariant.inside c.args.rule.valid _ c.in-Instruction.is
 
 pub returns-in_err-carry_out : goal.returns-in_err-carry_out
 returns-in_err-carry_out c =
